@@ -1,0 +1,2 @@
+// Banks of cells, each written by one station and read by one.
+pub mod record;

@@ -1,0 +1,1 @@
+// Stamps: what orders the records of a register.
