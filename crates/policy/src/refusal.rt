@@ -95,3 +95,23 @@ pub impl fmt::Display for Refusal as RefusalDisplay {
         }
     }
 }
+
+#[cfg(test)]
+mod tests {
+    use super::*;
+    use std::test::*;
+
+    #[test]
+    fn refusals_are_printed_by_number(rt: LibcRuntime) -> Result<(), Fail> {
+        let heap = rt.alloc();
+        check_eq(Refusal::CutShort.to_string(heap)?.as_str(), "10")?;
+        check_eq(
+            Refusal::Unreachable((0, 1, 2)).to_string(heap)?.as_str(),
+            "15 0 1 2",
+        )?;
+        check_eq(
+            Refusal::Unreachable((255, 16, 1)).to_string(heap)?.as_str(),
+            "15 255 16 1",
+        )
+    }
+}

@@ -1,0 +1,4 @@
+mod Accepted
+mod RoundTrips
+pub mod ReadingLaws
+pub mod WholeFiles

@@ -1,0 +1,3 @@
+// The command file: commands, their bytes, and back.
+pub mod command;
+pub mod decode;

@@ -1,0 +1,5 @@
+mod Lines
+mod Plain
+mod Pushes
+mod TextLaws
+mod Unsaid
