@@ -1,1 +1,4 @@
+pub mod Bounds
 pub mod Makes
+pub mod Numbers
+pub mod Pairs

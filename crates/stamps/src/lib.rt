@@ -1,1 +1,4 @@
-// Stamps: what orders the records of a register.
+// Stamps: what orders the records of a register. A trait with laws, and two makes of stamp.
+pub mod number;
+pub mod pair;
+pub mod stamp;

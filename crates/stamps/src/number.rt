@@ -1,0 +1,11 @@
+// Number stamps: count and owner in one number.
+ghost use Prim.Native.Nat.{_%_, _≤_};
+
+pub mod calls;
+
+// The number is count × 32 + owner, and stamps are compared by it.
+#[derive(Clone, Copy, PartialEq, Eq, Debug)]
+pub struct NumberStamp {
+    number: u32,
+    ghost bounded: { number % 32 ≤ 16 },
+}
