@@ -2,3 +2,4 @@ pub mod Bounds
 pub mod Makes
 pub mod Numbers
 pub mod Pairs
+pub mod Worked

@@ -2,6 +2,7 @@
 --     Make S              the parts of a make whose stamps are of the type S
 --     Compared m s t      exactly one of s and t is smaller, or they are the same stamp
 --     Laws m              the laws of a make
+--     Spent m s           s is spent
 --     first-of m k        what is answered when the first stamp for count k is asked for
 --     next-of m s w       what is answered when the next stamp after s for station w is asked for
 --     shown-stamp m s     what is printed of s
@@ -44,6 +45,9 @@ pub record Laws {S : Type 0} (m : Make S) : Type 0 where
   pub owners-differ : (s t : S) → m .owner s ≢ m .owner t → s ≢ t
 
 module _ {S : Type 0} (m : Make S) where
+  abbrev pub Spent : S → Type 0
+  Spent s = m .count s ≡ m .greatest
+
   -- none above the greatest count
   abbrev pub first-of : ℕ → Option S
   first-of k = cond (leb k (m .greatest)) (m .first k) None

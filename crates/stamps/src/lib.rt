@@ -2,3 +2,6 @@
 pub mod number;
 pub mod pair;
 pub mod stamp;
+#[cfg(test)]
+mod tests;
+pub mod worked;
