@@ -1,4 +1,4 @@
 pub mod Keyed
 mod Numbers
 mod Pairs
-mod Within
+pub mod Within

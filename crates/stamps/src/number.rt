@@ -1,4 +1,5 @@
 // Number stamps: count and owner in one number.
+ghost use mathlib.Core.Path.{_≡_};
 ghost use Prim.Native.Nat.{_%_, _≤_};
 
 pub mod calls;
@@ -8,4 +9,12 @@ pub mod calls;
 pub struct NumberStamp {
     number: u32,
     ghost bounded: { number % 32 ≤ 16 },
+}
+
+impl NumberStamp {
+    pub fn number(&self) -> u32
+        ensures { λ r. ⌜ r ≡ now (self .entry) .number ⌝ }
+    {
+        self.number
+    }
 }

@@ -1,6 +1,9 @@
 // What every make of stamp offers, and the laws that it shows.
 ghost use mathlib.Core.Path.{_≡_};
-ghost use Rattle.stamps.specs.Makes.{Make, Laws, first-of, next-of};
+ghost use Rattle.std.specs.Written.{Shows};
+ghost use Rattle.std.specs.declared.option.Option.the-variants.{Some};
+ghost use Rattle.stamps.specs.Makes.{Make, Laws, first-of, next-of, shown-stamp};
+use std::fmt;
 
 // Owners are 0, which is nobody, and the stations 1 to 16.
 pub const GREATEST_OWNER: u8 = 16;
@@ -27,4 +30,13 @@ pub trait Stamp: Copy {
 
     fn owner(&self) -> u8
         ensures { λ r. ⌜ r ≡ make .owner (now (self .entry)) ⌝ };
+
+    // Writes the stamp as count, full stop, owner.
+    fn print<W: fmt::Write>(&self, f: &mut fmt::Formatter<W>) -> fmt::Result
+        ensures { λ r. ⌜ Shows took (now (f .entry)) r (Some (shown-stamp make (now (self .entry)))) (now (f .exit)) ⌝ }
+    {
+        let count = self.count();
+        let owner = self.owner();
+        write!(f, "{count}.{owner}")
+    }
 }

@@ -31,12 +31,6 @@ impl NumberStamp {
         }
         Some(NumberStamp { number })
     }
-
-    pub fn number(&self) -> u32
-        ensures { λ r. ⌜ r ≡ now (self .entry) .number ⌝ }
-    {
-        self.number
-    }
 }
 
 pub impl Stamp for NumberStamp as NumberStampStamp {
@@ -70,8 +64,6 @@ pub impl fmt::Display for NumberStamp as NumberStampDisplay {
     ghost shown = { λ s. Some (shown-stamp number-make s) };
 
     fn fmt<W: fmt::Write>(&self, f: &mut fmt::Formatter<W>) -> fmt::Result {
-        let count = self.count();
-        let owner = self.owner();
-        write!(f, "{count}.{owner}")
+        self.print(f)
     }
 }

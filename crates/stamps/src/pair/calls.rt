@@ -51,8 +51,6 @@ pub impl fmt::Display for PairStamp as PairStampDisplay {
     ghost shown = { λ s. Some (shown-stamp pair-make s) };
 
     fn fmt<W: fmt::Write>(&self, f: &mut fmt::Formatter<W>) -> fmt::Result {
-        let count = self.count();
-        let owner = self.owner();
-        write!(f, "{count}.{owner}")
+        self.print(f)
     }
 }
