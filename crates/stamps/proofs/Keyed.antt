@@ -1,7 +1,7 @@
 -- The laws of a make whose stamps are compared by a number, their key.
-use mathlib.Core.Path.{_≡_, refl, sym, ap, _∙_}
-use mathlib.Core.Bool.{Bool, true, false}
-use mathlib.Core.Logic.{_≢_, _⊎_, ⊎-elim}
+use mathlib.Core.Path.{_≡_, sym, ap, _∙_}
+use mathlib.Core.Bool.{true, false}
+use mathlib.Core.Logic.{⊎-elim}
 use Prim.Native.Nat.{ℕ, _+_, _≤_, _<_}
 use lib.Dec.{ltb}
 use native.Mathlib.Omega.{arith}
@@ -11,7 +11,8 @@ use Rattle.std.specs.declared.option.Option.the-variants.{None, Some}
 use Rattle.std.proofs.shelf.Tests.{cases-order}
 use Rattle.stamps.specs.Makes.{Make, Compared, below, same, above, Laws}
 
--- key tells the stamps apart and gives their order; at k w is the stamp with count k and owner w, none above the greatest count
+-- key tells the stamps apart and gives their order. at k w is the stamp with count k and owner w, none above the greatest
+-- count.
 pub record Keyed {S : Type 0} (m : Make S) : Type 0 where
   pub key : S → ℕ
   pub apart : (s t : S) → key s ≡ key t → s ≡ t

@@ -1,11 +1,11 @@
 -- The laws of number stamps. The key is the number.
 use mathlib.Core.Path.{_≡_, refl, _∙_}
 use mathlib.Core.HLevel.{isProp→PathP}
-use Prim.Native.Nat.{ℕ, _+_, _*_, _/_, _%_, _≤_, _<_}
+use Prim.Native.Nat.{ℕ, _+_, _*_, _/_, _%_, _≤_}
 use native.Mathlib.Bridge.{le-prop}
 use native.Mathlib.Omega.{arith}
-use Rattle.std.specs.declared.option.Option.the-variants.{Some}
 use Rattle.std.proofs.shelf.Tests.{cond-true, cond-false, and-from, and-left, le-leb, lt-leb}
+use Rattle.std.specs.declared.option.Option.the-variants.{Some}
 use Rattle.stamps.specs.declared.number.NumberStamp.{NumberStamp}
 use Rattle.stamps.specs.Numbers.{number-at, number-pair, number-make}
 use Rattle.stamps.proofs.Within.{within}

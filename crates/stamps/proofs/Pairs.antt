@@ -1,14 +1,12 @@
 -- The laws of pair stamps. The key is count × 32 + owner.
-use mathlib.Core.Path.{_≡_, refl, sym, ap, _∙_}
-use mathlib.Core.Bool.{Bool, true, false, cond}
+use mathlib.Core.Path.{_≡_, refl, _∙_}
 use mathlib.Core.HLevel.{isProp→PathP}
-use Prim.Native.Nat.{ℕ, _+_, _*_, _≤_, _<_}
-use lib.Dec.{leb, ltb, eqb}
+use Prim.Native.Nat.{ℕ, _+_, _*_, _≤_}
 use native.Mathlib.Bridge.{le-prop}
 use native.Mathlib.Omega.{arith}
 use Rattle.std.proofs.shelf.Tests.{cond-true, cond-false, le-leb, lt-leb}
 use Rattle.std.proofs.shelf.Ways.{tells}
-use Rattle.std.specs.declared.option.Option.the-variants.{None, Some}
+use Rattle.std.specs.declared.option.Option.the-variants.{Some}
 use Rattle.stamps.specs.declared.pair.PairStamp.{PairStamp}
 use Rattle.stamps.specs.Pairs.{pair-at, pair, pair-make}
 use Rattle.stamps.proofs.Within.{within}

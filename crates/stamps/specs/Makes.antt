@@ -2,17 +2,17 @@
 --     Make S              the parts of a make whose stamps are of the type S
 --     Compared m s t      exactly one of s and t is smaller, or they are the same stamp
 --     Laws m              the laws of a make
---     Spent m s           s is spent
---     first-of m k        what is answered when the first stamp for count k is asked for
---     next-of m s w       what is answered when the next stamp after s for station w is asked for
+--     Spent m s           s is spent: its count is the greatest
+--     first-of m k        what a call for the first stamp of count k answers
+--     next-of m s w       what a call for the next stamp after s for station w answers
 --     shown-stamp m s     what is printed of s
 use mathlib.Core.Path.{_≡_}
 use mathlib.Core.Bool.{Bool, true, false, cond}
+use mathlib.Core.List.{List, _++_}
 use mathlib.Core.Logic.{_≢_}
 use Prim.Native.Nat.{ℕ, _+_, _≤_, _<_}
-use lib.Dec.{leb}
 use lib.Chars.{codes}
-use mathlib.Core.List.{List, _++_}
+use lib.Dec.{leb}
 use Rattle.std.specs.Written.{decimal}
 use Rattle.std.specs.declared.option.Option.{Option}
 use Rattle.std.specs.declared.option.Option.the-variants.{None, Some}

@@ -2,8 +2,7 @@
 --     pair-at k w h       the pair stamp with count k and owner w, which h bounds
 --     pair k w            the same; none for a count above the greatest, or an owner above 16
 --     pair-make           the make of pair stamps
-use mathlib.Core.Path.{_≡_}
-use mathlib.Core.Bool.{Bool, true, false, cond, _&&_, _||_}
+use mathlib.Core.Bool.{Bool, cond, _&&_, _||_}
 use Prim.Native.Nat.{ℕ, _+_, _≤_}
 use lib.Dec.{leb, ltb, eqb}
 use Rattle.std.specs.declared.option.Option.{Option}

@@ -19,7 +19,7 @@ pair-of k w t = pair-at k w (leb→le w 16 t)
 abbrev number-of : (x : ℕ) → T (leb (x % 32) 16) → NumberStamp
 number-of x t = number-at x (leb→le (x % 32) 16 t)
 
--- A list that begins with these values holds this record as its first entry.
+-- A longer list has this record as its first entry.
 pub record Worked : Type 0 where
   pub pair-next : next-of pair-make (pair-of 0 0 tt) 3 ≡ Some (pair-of 1 3 tt)
   pub pair-smaller : pair-make .smaller (pair-of 1 16 tt) (pair-of 2 1 tt) ≡ true

@@ -5,3 +5,11 @@ pub mod stamp;
 #[cfg(test)]
 mod tests;
 pub mod worked;
+
+pub use number::NumberStamp;
+pub use number::calls::NumberMake;
+pub use number::calls::NumberStampDisplay;
+pub use pair::PairStamp;
+pub use pair::calls::PairMake;
+pub use pair::calls::PairStampDisplay;
+pub use stamp::Stamp;

@@ -1,10 +1,10 @@
 // Stamps at the edges: the last counts, the last owner, equal counts.
 use crate::number::NumberStamp;
+use crate::number::calls::NumberMake;
 use crate::number::calls::NumberStampDisplay;
-use crate::number::calls::NumberStampStamp;
 use crate::pair::PairStamp;
+use crate::pair::calls::PairMake;
 use crate::pair::calls::PairStampDisplay;
-use crate::pair::calls::PairStampStamp;
 use crate::stamp::Stamp;
 use std::test::*;
 

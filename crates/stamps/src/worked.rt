@@ -5,10 +5,10 @@ ghost use Rattle.std.specs.declared.option.Option.the-variants.{Some};
 ghost use Rattle.stamps.specs.Worked.{Worked};
 use crate::number::NumberStamp;
 use crate::number::NumberStampPartialEq;
-use crate::number::calls::NumberStampStamp;
+use crate::number::calls::NumberMake;
 use crate::pair::PairStamp;
 use crate::pair::PairStampPartialEq;
-use crate::pair::calls::PairStampStamp;
+use crate::pair::calls::PairMake;
 use crate::stamp::Stamp;
 
 // Whether the calls give the worked values. They do, and so do the definitions.

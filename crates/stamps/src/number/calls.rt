@@ -33,7 +33,7 @@ impl NumberStamp {
     }
 }
 
-pub impl Stamp for NumberStamp as NumberStampStamp {
+pub impl Stamp for NumberStamp as NumberMake {
     ghost make = { number-make };
 
     fn first(count: u64) -> Option<Self> {

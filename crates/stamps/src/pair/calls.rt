@@ -20,7 +20,7 @@ impl PairStamp {
     }
 }
 
-pub impl Stamp for PairStamp as PairStampStamp {
+pub impl Stamp for PairStamp as PairMake {
     ghost make = { pair-make };
 
     fn first(count: u64) -> Option<Self> {
