@@ -1,4 +1,4 @@
 pub mod Keyed
-mod Numbers
-mod Pairs
+pub mod Numbers
+pub mod Pairs
 pub mod Within

@@ -12,8 +12,8 @@ use Rattle.stamps.proofs.Within.{within}
 use Rattle.stamps.proofs.Keyed.{Keyed}
 
 -- two stamps with equal numbers are one
-same : (s t : NumberStamp) → s .number ≡ t .number → s ≡ t
-same s t e =
+pub same-number : (s t : NumberStamp) → s .number ≡ t .number → s ≡ t
+same-number s t e =
     λ i. number-at (e i) (isProp→PathP (λ k. e k % 32 ≤ 16) (λ k. le-prop) (s .bounded) (t .bounded) i)
 
 found : (k w : ℕ) → k ≤ 134217727 → w ≤ 16 → (s : NumberStamp) × (number-pair k w ≡ Some s) × (s .number / 32 ≡ k) × (s .number % 32 ≡ w)
@@ -29,7 +29,7 @@ pub number-keyed : Keyed number-make
 number-keyed =
     record {
       key = λ s. s .number;
-      apart = same;
+      apart = same-number;
       by-key = λ s t. refl;
       by-count = λ s t h. omega arith;
       at = number-pair;

@@ -13,8 +13,8 @@ use Rattle.stamps.proofs.Within.{within}
 use Rattle.stamps.proofs.Keyed.{Keyed}
 
 -- two stamps with equal parts are one
-same : (s t : PairStamp) → s .count ≡ t .count → s .owner ≡ t .owner → s ≡ t
-same s t e f =
+pub same-pair : (s t : PairStamp) → s .count ≡ t .count → s .owner ≡ t .owner → s ≡ t
+same-pair s t e f =
     λ i. pair-at (e i) (f i) (isProp→PathP (λ k. f k ≤ 16) (λ k. le-prop) (s .bounded) (t .bounded) i)
 
 pub pair-found : (k w : ℕ) → k ≤ 4294967295 → (h : w ≤ 16) → pair k w ≡ Some (pair-at k w h)
@@ -24,7 +24,7 @@ pub pair-keyed : Keyed pair-make
 pair-keyed =
     record {
       key = λ s. s .count * 32 + s .owner;
-      apart = λ s t e. same s t (omega arith) (omega arith);
+      apart = λ s t e. same-pair s t (omega arith) (omega arith);
       by-key = λ s t. grind (arith, tells);
       by-count = λ s t h. omega arith;
       at = pair;
