@@ -1,1 +1,5 @@
+pub mod Bounds
 pub mod Makes
+pub mod Numbers
+pub mod Pairs
+pub mod Worked

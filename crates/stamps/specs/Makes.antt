@@ -2,10 +2,18 @@
 --     Make S              the parts of a make whose stamps are of the type S
 --     Compared m s t      exactly one of s and t is smaller, or they are the same stamp
 --     Laws m              the laws of a make
+--     Spent m s           s is spent: its count is the greatest
+--     first-of m k        what a call for the first stamp of count k answers
+--     next-of m s w       what a call for the next stamp after s for station w answers
+--     shown-stamp m s     what is printed of s
 use mathlib.Core.Path.{_≡_}
-use mathlib.Core.Bool.{Bool, true, false}
+use mathlib.Core.Bool.{Bool, true, false, cond}
+use mathlib.Core.List.{List, _++_}
 use mathlib.Core.Logic.{_≢_}
 use Prim.Native.Nat.{ℕ, _+_, _≤_, _<_}
+use lib.Chars.{codes}
+use lib.Dec.{leb}
+use Rattle.std.specs.Written.{decimal}
 use Rattle.std.specs.declared.option.Option.{Option}
 use Rattle.std.specs.declared.option.Option.the-variants.{None, Some}
 
@@ -35,3 +43,19 @@ pub record Laws {S : Type 0} (m : Make S) : Type 0 where
   -- a spent stamp has no next one
   pub spent : (s : S) (w : ℕ) → m .greatest ≤ m .count s → m .next s w ≡ None
   pub owners-differ : (s t : S) → m .owner s ≢ m .owner t → s ≢ t
+
+module _ {S : Type 0} (m : Make S) where
+  abbrev pub Spent : S → Type 0
+  Spent s = m .count s ≡ m .greatest
+
+  -- none above the greatest count
+  abbrev pub first-of : ℕ → Option S
+  first-of k = cond (leb k (m .greatest)) (m .first k) None
+
+  -- none for a station above 16
+  abbrev pub next-of : S → ℕ → Option S
+  next-of s w = cond (leb w 16) (m .next s w) None
+
+  -- count, full stop, owner
+  abbrev pub shown-stamp : S → List ℕ
+  shown-stamp s = decimal (m .count s) ++ (codes "." ++ decimal (m .owner s))

@@ -1,0 +1,4 @@
+pub mod Keyed
+pub mod Numbers
+pub mod Pairs
+pub mod Within
