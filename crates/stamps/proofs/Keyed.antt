@@ -54,8 +54,8 @@ module _ {S : Type 0} {m : Make S} (k : Keyed m) where
         by-count = λ s t h. smaller s t (k .by-count s t h);
         first-stamp = λ n h. let f = k .found n 0 h (omega arith) in (f .0, k .first n ∙ f .1, f .2, f .3);
         next-stamp =
-            λ s w hw h.
+            λ s w some hw h.
             let f = k .found (m .count s + 1) w (omega arith) hw in (f .0, k .next s w ∙ f .1, f .2, f .3);
-        spent = λ s w h. k .next s w ∙ k .none (m .count s + 1) w (omega arith);
+        spent = λ s w some hw h. k .next s w ∙ k .none (m .count s + 1) w (omega arith);
         owners-differ = λ s t n e. n (ap (m .owner) e);
       }

@@ -39,9 +39,9 @@ pub record Laws {S : Type 0} (m : Make S) : Type 0 where
   -- the first stamp for count k has count k and owner 0
   pub first-stamp : (k : ℕ) → k ≤ m .greatest → (s : S) × (m .first k ≡ Some s) × (m .count s ≡ k) × (m .owner s ≡ 0)
   -- the next stamp after s for station w has count one higher and owner w
-  pub next-stamp : (s : S) (w : ℕ) → w ≤ 16 → m .count s < m .greatest → (t : S) × (m .next s w ≡ Some t) × (m .count t ≡ m .count s + 1) × (m .owner t ≡ w)
+  pub next-stamp : (s : S) (w : ℕ) → 1 ≤ w → w ≤ 16 → m .count s < m .greatest → (t : S) × (m .next s w ≡ Some t) × (m .count t ≡ m .count s + 1) × (m .owner t ≡ w)
   -- a spent stamp has no next one
-  pub spent : (s : S) (w : ℕ) → m .greatest ≤ m .count s → m .next s w ≡ None
+  pub spent : (s : S) (w : ℕ) → 1 ≤ w → w ≤ 16 → m .greatest ≤ m .count s → m .next s w ≡ None
   pub owners-differ : (s t : S) → m .owner s ≢ m .owner t → s ≢ t
 
 module _ {S : Type 0} (m : Make S) where

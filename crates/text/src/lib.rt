@@ -2,6 +2,8 @@
 ghost use mathlib.Core.Path.{_≡_};
 ghost use mathlib.Core.Bool.{cond};
 ghost use mathlib.Core.List.{_++_};
+ghost use Prim.Native.Nat.{_-_, _<_};
+ghost use lib.ListN.{take, drop};
 ghost use Rattle.std.specs.Of.Vec.{vec-items};
 ghost use Rattle.std.specs.Results.{isOk};
 ghost use Rattle.std.specs.Written.{decimal};
@@ -14,6 +16,15 @@ const DIGITS: usize = 20;
 pub fn push_decimal(out: &mut Vec<u8>, number: u64) -> Result<(), AllocError>
     ensures { λ r. ⌜ vec-items (now (out .exit)) ≡ cond (isOk r) (vec-items (now (out .entry)) ++ decimal number) (vec-items (now (out .entry))) ⌝ }
 {
+    let (digits, at) = spell(number);
+    out.extend_from_slice(&digits[at..])
+}
+
+// An array with the number's digits at its end, and where they begin.
+fn spell(number: u64) -> ([u8; DIGITS], usize)
+    ensures within { λ r. ⌜ r .1 < 20 ⌝ }
+    ensures spelled { λ r. ⌜ take (20 - r .1) (drop (r .1) (r .0)) ≡ decimal number ⌝ }
+{
     let mut digits = [0u8; DIGITS];
     let mut at = DIGITS - 1;
     digits[at] = b'0' + (number % 10) as u8;
@@ -23,7 +34,7 @@ pub fn push_decimal(out: &mut Vec<u8>, number: u64) -> Result<(), AllocError>
         digits[at] = b'0' + (left % 10) as u8;
         left /= 10;
     }
-    out.extend_from_slice(&digits[at..])
+    (digits, at)
 }
 
 #[cfg(test)]

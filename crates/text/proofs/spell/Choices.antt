@@ -4,7 +4,7 @@ use Prim.Native.Nat.{_^_, _<_, _≤_}
 use lib.ListN.{length, drop}
 use Rattle.std.specs.Written.{decimal}
 use Rattle.text.proofs.Digits.{front}
-use Rattle.text.proofs.push_decimal.Given as given
+use Rattle.text.proofs.spell.Given as given
 
 -- the digits so far, behind those of what is left
 abbrev pub Inv-loop-left : given.InvT-loop-left

@@ -2,7 +2,7 @@ use mathlib.Core.Path.{_≡_, refl, _∙_}
 use native.Mathlib.Omega.{arith}
 use lib.ListN.{length, length-set}
 use Rattle.text.proofs.Digits.{last-digit, one-less, written, all-written}
-use Rattle.text.proofs.push_decimal.Needs as need
+use Rattle.text.proofs.spell.Needs as need
 
 pub loop-left-holds : need.loop-left-holds
 loop-left-holds c = (refl, omega arith, omega arith, omega arith, last-digit (c .args .number) (omega arith))
@@ -18,5 +18,4 @@ loop-left-again c =
 pub returns : need.returns
 returns c =
     let l = c .loop-left in
-    let all = all-written (l .left) (l .at) (l .digits) _ (c .loop-left-test .left) (l .inv .0) (l .inv .4) in
-    cc (c .extend-from-slice .ensures .items)
+    record { within = l .inv .1; spelled = all-written (l .left) (l .at) (l .digits) _ (c .loop-left-test .left) (l .inv .0) (l .inv .4) }
