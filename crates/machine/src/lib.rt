@@ -1,0 +1,3 @@
+// The register as a plain machine: what its code and its definitions share.
+pub mod line;
+pub mod row;
