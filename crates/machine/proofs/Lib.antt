@@ -1,0 +1,4 @@
+mod Entries
+mod Moved
+mod Moves
+mod Orders
