@@ -88,6 +88,7 @@ module _ {S V : Type 0} where
     pub opened : e .op .opened ≤ moment
     pub phase : Phase n moment e
     pub own : (v : V) → e .op .given ≡ Some v → e .value ≡ v
+    pub reading : e .op .kind ≡ Read → e .op .given ≡ None
     pub owned : (t : ℕ) → e .op .kind ≡ Write → e .op .stamped ≡ Some t → m .owner (e .stamp) ≡ e .op .station
 
   -- a write stamped before t has the stamp s and the value v

@@ -2,3 +2,5 @@ mod Entries
 mod Moved
 mod Moves
 mod Orders
+mod Rows
+mod Collecting

@@ -26,7 +26,7 @@ valueOr-on : (o : Option ℕ) (t : ℕ) → valueOr o (t + 1) ≤ valueOr o (t +
 valueOr-on None t = omega arith
 valueOr-on (Some u) t = le-refl u
 
-none-some : {X : Type 0} (o : Option X) (x : X) → o ≡ None → o ≡ Some x → ⊥
+pub none-some : {X : Type 0} (o : Option X) (x : X) → o ≡ None → o ≡ Some x → ⊥
 none-some o x p q = let z : _≡_ {A = ℕ} 0 1 = cc in omega arith
 
 module _ {S V : Type 0} (m : Make S) (origin : Record S V) (n count moment : ℕ) (c d : Cells (Record S V)) (row : ℕ → Row) (ent : ℕ → Entry S V) (i s steps : ℕ) (e : Entry S V) (r : Row) (inv : Inv m origin n count moment c row ent) (known-s : inside n s ≡ true) (busy : row s ≡ Busy i steps) (move : Move m n count moment c d ent i s e r) where

@@ -82,6 +82,19 @@ module _ {S V : Type 0} where
       all : (at-row ent i e (b .by) .op .kind ≡ Write) × (at-row ent i e (b .by) .op .stamped ≡ Some (b .at)) × (at-row ent i e (b .by) .stamp ≡ s) × (at-row ent i e (b .by) .value ≡ v)
       all = split ent i e P (b .by) same (λ _ _. (b .write, b .stamped, b .stamp, b .value)) refl
 
+  pub backed-on : {ent : ℕ → Entry S V} {count t : ℕ} {s : S} {v : V} (u : ℕ) → t ≤ u → Backed ent count t s v → Backed ent count u s v
+  backed-on u le b =
+      record {
+        by = b .by;
+        low = b .low;
+        write = b .write;
+        at = b .at;
+        stamped = b .stamped;
+        before = let h = b .before in omega arith;
+        stamp = b .stamp;
+        value = b .value;
+      }
+
   pub phase-on : {n moment : ℕ} {e : Entry S V} → Phase n moment e → Phase n (moment + 1) e
   phase-on (collecting a b c) = collecting a b c
   phase-on (spreading t a b c d f) = spreading t a b (omega arith) d f
@@ -97,5 +110,6 @@ module _ {S V : Type 0} where
         opened = let o = h .opened in omega arith;
         phase = phase-on (h .phase);
         own = h .own;
+        reading = h .reading;
         owned = h .owned;
       }

@@ -1,10 +1,10 @@
 -- The order of stamps, from the laws of a make. Assumes nothing.
 use mathlib.Core.Path.{_≡_, refl, sym, _∙_, subst}
 use mathlib.Core.Bool.{Bool, true, false}
-use mathlib.Core.Logic.{_⊎_, inl, inr, _≢_}
+use mathlib.Core.Logic.{_⊎_, inl, inr, _≢_, ⊎-elim}
 use Prim.Native.Nat.{ℕ, _+_, _≤_, _<_}
 use native.Mathlib.Omega.{arith}
-use Rattle.std.proofs.shelf.Tests.{both-ways, cases-bool}
+use Rattle.std.proofs.shelf.Tests.{both-ways, cases-lt}
 use Rattle.std.specs.declared.option.Option.{Option}
 use Rattle.std.specs.declared.option.Option.the-variants.{None, Some}
 use Rattle.stamps.specs.Makes.{Make, Laws, Compared, below, same, above}
@@ -52,3 +52,16 @@ module _ {S : Type 0} (m : Make S) (laws : Laws m) where
 
   pub smaller-not-same : (s t : S) → m .smaller s t ≡ true → s ≢ t
   smaller-not-same s t h e = both-ways (m .smaller t t) (at-most-refl t) (subst (λ x. m .smaller x t ≡ true) e h)
+
+  -- a next stamp is greater, and its owner is the station that took it
+  pub next-stamps : (s t : S) (w : ℕ) → w ≤ 16 → m .next s w ≡ Some t → (m .smaller s t ≡ true) × (m .owner t ≡ w)
+  next-stamps s t w le e = ⊎-elim fresh (λ ge. let z : _≡_ {A = ℕ} 0 1 = cc (laws .spent s w ge) in absurd (zero-not-one z)) (cases-lt (m .count s) (m .greatest))
+    where
+      zero-not-one : _≡_ {A = ℕ} 0 1 → ⊥
+      zero-not-one z = omega arith
+      fresh : m .count s < m .greatest → (m .smaller s t ≡ true) × (m .owner t ≡ w)
+      fresh lt =
+          let f = laws .next-stamp s w le lt in
+          let same-stamp : f .0 ≡ t = cc (f .1) in
+          let up : m .count s < m .count (f .0) = omega (arith, f .2) in
+          (subst (λ x. m .smaller s x ≡ true) same-stamp (laws .by-count s (f .0) up), subst (λ x. m .owner x ≡ w) same-stamp (f .3))
