@@ -45,7 +45,7 @@ module _ {S V : Type 0} where
   write-keeps m e x h =
       cond-both (m .smaller (e .stamp) (x .tag)) (value-of (e .op .kind) (e .value) (x .value)) (e .value) (λ v. v ≡ e .value) (λ _. ap (λ k. value-of k (e .value) (x .value)) h) (λ _. refl)
 
-module _ {S V : Type 0} {m : Make S} (laws : Laws m) {origin : Record S V} {n count moment : ℕ} {c : Cells (Record S V)} {row : ℕ → Row} {ent : ℕ → Entry S V} {i s steps : ℕ} (h : Here m origin n count moment c row ent i s steps) (early : steps < n) (x : Record S V) (held : Held c (steps + 1) x) where
+module _ {S V : Type 0} {m : Make S} (laws : Laws m) {origin : Record S V} {n count moment : ℕ} {c : Cells (Record S V)} {row : ℕ → Row} {ent : ℕ → Entry S V} {i s steps : ℕ} (h : Here m origin n count moment c row ent i s steps) (early : steps < n) (x : Record S V) (held : Held n c (steps + 1) x) where
   pub unstamped : ent i .op .stamped ≡ None
   unstamped = go (h .inv .sound i (fits h .high) .phase)
     where
@@ -74,7 +74,7 @@ module _ {S V : Type 0} {m : Make S} (laws : Laws m) {origin : Record S V} {n co
       here ge =
           let g : ent i .op .steps ≡ steps = fits h .taken in
           let e : ent a .op .station ≡ steps + 1 = omega arith in
-          at-most-trans m laws _ _ _ (h .inv .above a u (not-zeroth a e) la d x (subst (λ w. Held c w x) (sym e) held)) above-met
+          at-most-trans m laws _ _ _ (h .inv .above a u (not-zeroth a e) la d x (subst (λ w. Held n c w x) (sym e) held)) above-met
 
   -- what a read holds is backed
   pub backed-met : ent i .op .kind ≡ Read → Backed ent count (moment + 1) (met-stamp m (ent i) x) (met-value m (ent i) x)

@@ -1,6 +1,6 @@
 -- The invariant of a run: what holds of the operations, the cells and the rows at every point. Assumes nothing.
 --     Entry S V           an operation with the stamp and the value of its line; entry 0 is the starting record
---     Held c w x          row w of the cells holds the record x, settled or open
+--     Held n c w x          row w of the cells holds the record x, settled or open
 --     Backed              a write stamped before t has this stamp and value
 --     Sound               what holds of one entry; Phase: how far it has come
 --     Order, Later        what holds of two entries
@@ -37,9 +37,10 @@ pub record Cells (R : Type 0) : Type 0 where
   pub settled : ℕ → ℕ → Option R
   pub opened : ℕ → Option (ℕ × R)
 
-pub data Held {R : Type 0} (c : Cells R) (w : ℕ) (x : R) : Type 0 where
-  as-settled : (r : ℕ) → c .settled w r ≡ Some x → Held c w x
-  as-open : (r : ℕ) → c .opened w ≡ Some (r, x) → Held c w x
+-- of n readers
+pub data Held {R : Type 0} (n : ℕ) (c : Cells R) (w : ℕ) (x : R) : Type 0 where
+  as-settled : (r : ℕ) → inside n r ≡ true → c .settled w r ≡ Some x → Held n c w x
+  as-open : (r : ℕ) → c .opened w ≡ Some (r, x) → Held n c w x
 
 -- s is at most t
 abbrev pub AtMost : {S : Type 0} → Make S → S → S → Type 0
@@ -150,9 +151,9 @@ module _ {S V : Type 0} where
     -- a read's stamp and value are those of a write stamped before it
     pub reads : (k : ℕ) → k ≤ count → ent k .op .kind ≡ Read → Backed ent count (valueOr (ent k .op .stamped) (moment + 1)) (ent k .stamp) (ent k .value)
     -- and so are those of every record that a row holds
-    pub kept : (w : ℕ) (x : Record S V) → Held c w x → Backed ent count (moment + 1) (x .tag) (x .value)
+    pub kept : (w : ℕ) (x : Record S V) → Held n c w x → Backed ent count (moment + 1) (x .tag) (x .value)
     -- a done operation's stamp is at most that of every record its row holds
-    pub above : (a u : ℕ) → 1 ≤ a → a ≤ count → Done-at (ent a) u → (x : Record S V) → Held c (ent a .op .station) x → AtMost m (ent a .stamp) (x .tag)
+    pub above : (a u : ℕ) → 1 ≤ a → a ≤ count → Done-at (ent a) u → (x : Record S V) → Held n c (ent a .op .station) x → AtMost m (ent a .stamp) (x .tag)
     pub rows : (s : ℕ) → inside n s ≡ true → Row-fits n moment c ent count s (row s)
     pub full : (w r : ℕ) → known n w r ≡ true → (x : Record S V) × (c .settled w r ≡ Some x)
 

@@ -4,3 +4,4 @@ mod Moves
 mod Orders
 mod Rows
 mod Collecting
+mod Stamping

@@ -29,6 +29,9 @@ valueOr-on (Some u) t = le-refl u
 pub none-some : {X : Type 0} (o : Option X) (x : X) → o ≡ None → o ≡ Some x → ⊥
 none-some o x p q = let z : _≡_ {A = ℕ} 0 1 = cc in omega arith
 
+pub some-pair : {X Y : Type 0} (a b : X) (c d : Y) → _≡_ {A = Option (X × Y)} (Some (a, c)) (Some (b, d)) → (a ≡ b) × (c ≡ d)
+some-pair {X} {Y} a b c d e = let p : _≡_ {A = X × Y} (a, c) (b, d) = cc in (ap (λ z. z .0) p, ap (λ z. z .1) p)
+
 module _ {S V : Type 0} (m : Make S) (origin : Record S V) (n count moment : ℕ) (c d : Cells (Record S V)) (row : ℕ → Row) (ent : ℕ → Entry S V) (i s steps : ℕ) (e : Entry S V) (r : Row) (inv : Inv m origin n count moment c row ent) (known-s : inside n s ≡ true) (busy : row s ≡ Busy i steps) (move : Move m n count moment c d ent i s e r) where
   fits : Busy-fits n c count s i steps (ent i)
   fits = subst (Row-fits n moment c ent count s) busy (inv .rows s known-s)
@@ -64,13 +67,13 @@ module _ {S V : Type 0} (m : Make S) (origin : Record S V) (n count moment : ℕ
       (λ _ lk′ h. on _ _ _ _ (valueOr-on (ent k .op .stamped) moment) (inv .reads k lk′ h))
       lk
 
-  moved-kept : (w : ℕ) (x : Record S V) → Held d w x → Backed (at-row ent i e) count (moment + 1 + 1) (x .tag) (x .value)
+  moved-kept : (w : ℕ) (x : Record S V) → Held n d w x → Backed (at-row ent i e) count (moment + 1 + 1) (x .tag) (x .value)
   moved-kept w x h = ⊎-elim (λ k. on _ _ _ _ (omega arith) (inv .kept w x k)) (λ p. on _ _ _ _ (omega arith) (p .backed)) (move .held w x h)
 
-  moved-above : (a u : ℕ) → 1 ≤ a → a ≤ count → Done-at (at-row ent i e a) u → (x : Record S V) → Held d (at-row ent i e a .op .station) x → AtMost m (at-row ent i e a .stamp) (x .tag)
+  moved-above : (a u : ℕ) → 1 ≤ a → a ≤ count → Done-at (at-row ent i e a) u → (x : Record S V) → Held n d (at-row ent i e a .op .station) x → AtMost m (at-row ent i e a .stamp) (x .tag)
   moved-above a u low la =
-      split ent i e (λ a′ f. 1 ≤ a′ → a′ ≤ count → Done-at f u → (x : Record S V) → Held d (f .op .station) x → AtMost m (f .stamp) (x .tag)) a
-      (λ _ _ h x k. move .done u h x (subst (λ w. Held d w x) (move .grows .station ∙ fits .station) k))
+      split ent i e (λ a′ f. 1 ≤ a′ → a′ ≤ count → Done-at f u → (x : Record S V) → Held n d (f .op .station) x → AtMost m (f .stamp) (x .tag)) a
+      (λ _ _ h x k. move .done u h x (subst (λ w. Held n d w x) (move .grows .station ∙ fits .station) k))
       (λ _ low′ la′ h x k. ⊎-elim (inv .above a u low′ la′ h x) (λ p. p .above a u la′ h (p .here)) (move .held _ x k))
       low la
 

@@ -21,6 +21,17 @@ use Rattle.machine.specs.declared.row.Row.{Row}
 use Rattle.machine.specs.declared.row.Row.the-variants.{Idle, Busy}
 use Rattle.machine.proofs.Entries.{Entry, Cells, Held, as-settled, as-open, AtMost, rec, start-entry, Done-at, Phase, collecting, spreading, finished, refused, Sound, Backed, Ended, Order, Above, Later, Busy-fits, Row-fits, Inv}
 
+-- an update at i: what is to show at i, and elsewhere
+pub split : {Y : Type 0} (f : ℕ → Y) (i : ℕ) (y : Y) (P : ℕ → Y → Type 0) (k : ℕ) → P i y → (k ≢ i → P k (f k)) → P k (at-row f i y k)
+split f i y P k here there =
+    cond-both (eqb k i) y (f k) (P k) (λ h. subst (λ j. P j y) (sym (eqb-true k i h)) here) (λ h. there (eqb-false k i h))
+
+pub at-other : {Y : Type 0} (f : ℕ → Y) (i : ℕ) (y : Y) (k : ℕ) → k ≢ i → at-row f i y k ≡ f k
+at-other f i y k h = split f i y (λ j g. j ≢ i → g ≡ f j) k (λ g. absurd (g refl)) (λ _ _. refl) h
+
+pub at-same : {Y : Type 0} (f : ℕ → Y) (i : ℕ) (y : Y) → at-row f i y i ≡ y
+at-same f i y = split f i y (λ j g. j ≡ i → g ≡ y) i (λ _. refl) (λ g h. absurd (g h)) refl
+
 module _ {S V : Type 0} where
   -- what an open fixes stays, and a stamped entry keeps its stamp and value
   pub record Grows (d e : Entry S V) : Type 0 where
@@ -42,22 +53,11 @@ module _ {S V : Type 0} where
     pub ends : (u : ℕ) (h : End S V) → e .op .ended ≡ Some (u, h) → u ≡ moment + 1
     pub later : (a u : ℕ) → a ≤ count → a ≢ i → Done-at (ent a) u → u < e .op .opened → ent a .op .station ≤ e .op .steps → Above m (ent a) e
     pub reads : e .op .kind ≡ Read → Backed ent count (valueOr (e .op .stamped) (moment + 1 + 1)) (e .stamp) (e .value)
-    pub held : (w : ℕ) (x : Record S V) → Held d w x → Held c w x ⊎ Put m ent count moment s w x
+    pub held : (w : ℕ) (x : Record S V) → Held n d w x → Held n c w x ⊎ Put m ent count moment s w x
     pub others : (w : ℕ) → w ≢ s → (d .opened w ≡ c .opened w) × ((q : ℕ) → d .settled w q ≡ c .settled w q)
     pub full : (w q : ℕ) → known n w q ≡ true → (x : Record S V) × (d .settled w q ≡ Some x)
     pub row : Row-fits n (moment + 1) d (at-row ent i e) count s r
-    pub done : (u : ℕ) → Done-at e u → (x : Record S V) → Held d s x → AtMost m (e .stamp) (x .tag)
-
-  -- an update of the entries at i: what is to show at i, and elsewhere
-  pub split : (ent : ℕ → Entry S V) (i : ℕ) (e : Entry S V) (P : ℕ → Entry S V → Type 0) (k : ℕ) → P i e → (k ≢ i → P k (ent k)) → P k (at-row ent i e k)
-  split ent i e P k here there =
-      cond-both (eqb k i) e (ent k) (P k) (λ h. subst (λ j. P j e) (sym (eqb-true k i h)) here) (λ h. there (eqb-false k i h))
-
-  pub at-other : (ent : ℕ → Entry S V) (i : ℕ) (e : Entry S V) (k : ℕ) → k ≢ i → at-row ent i e k ≡ ent k
-  at-other ent i e k h = split ent i e (λ j f. j ≢ i → f ≡ ent j) k (λ g. absurd (g refl)) (λ _ _. refl) h
-
-  pub at-same : (ent : ℕ → Entry S V) (i : ℕ) (e : Entry S V) → at-row ent i e i ≡ e
-  at-same ent i e = split ent i e (λ j f. j ≡ i → f ≡ e) i (λ _. refl) (λ g h. absurd (g h)) refl
+    pub done : (u : ℕ) → Done-at e u → (x : Record S V) → Held n d s x → AtMost m (e .stamp) (x .tag)
 
   pub grown : (ent : ℕ → Entry S V) (i : ℕ) (e : Entry S V) (count t u : ℕ) (s : S) (v : V) → Grows (ent i) e → t ≤ u → Backed ent count t s v → Backed (at-row ent i e) count u s v
   grown ent i e count t u s v g le b =
