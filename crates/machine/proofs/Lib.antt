@@ -5,3 +5,4 @@ mod Orders
 mod Rows
 mod Collecting
 mod Stamping
+mod Spreading

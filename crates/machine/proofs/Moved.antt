@@ -22,7 +22,7 @@ use Rattle.machine.proofs.Entries.{Entry, Cells, Held, AtMost, Done-at, Sound,
 use Rattle.machine.proofs.Moves.{Grows, Put, Move, split, at-other, grown, sound-on}
 
 -- a later time: the stamping's own, or the present
-valueOr-on : (o : Option ℕ) (t : ℕ) → valueOr o (t + 1) ≤ valueOr o (t + 1 + 1)
+pub valueOr-on : (o : Option ℕ) (t : ℕ) → valueOr o (t + 1) ≤ valueOr o (t + 1 + 1)
 valueOr-on None t = omega arith
 valueOr-on (Some u) t = le-refl u
 

@@ -6,7 +6,7 @@ use mathlib.Core.Logic.{_⊎_, inl, inr, _≢_, ⊎-elim}
 use Prim.Native.Nat.{ℕ, _+_, _-_, _*_, _/_, _%_, _≤_, _<_}
 use native.Mathlib.Omega.{arith}
 use lib.Dec.{eqb, ltb}
-use Rattle.std.proofs.shelf.Tests.{cond-both, ltb-false, cases-order}
+use Rattle.std.proofs.shelf.Tests.{cond-both, cond-true, cond-false, ltb-false, le-ltb, ne-eqb, eq-eqb, cases-order}
 use Rattle.std.specs.declared.option.Option.{Option}
 use Rattle.std.specs.declared.option.Option.the-variants.{None, Some}
 use Rattle.banks.specs.declared.record.Record.{Record}
@@ -30,6 +30,19 @@ pub nothing-open : {S V : Type 0} (n s : ℕ) (e : Entry S V) → e .op .steps �
 nothing-open n s e le =
     cond-both (ltb (e .op .steps) n) None (cond (eqb ((e .op .steps - n) % 2) 0) None (Some (spread-to s ((e .op .steps - n) / 2), rec e))) (λ o. o ≡ None) (λ _. refl)
     (λ h. let low = ltb-false (e .op .steps) n h in let z : e .op .steps - n ≡ 0 = omega arith in ap (λ k. cond (eqb (k % 2) 0) None (Some (spread-to s ((e .op .steps - n) / 2), rec e))) z)
+
+-- between a start and its finish, and past a finish
+pub something-open : {S V : Type 0} (n s : ℕ) (e : Entry S V) → n ≤ e .op .steps → (e .op .steps - n) % 2 ≡ 1 → open-record n s e ≡ Some (spread-to s ((e .op .steps - n) / 2), rec e)
+something-open n s e le odd =
+    let A = le-ltb (e .op .steps) n le in
+    let B = ne-eqb ((e .op .steps - n) % 2) 0 (λ z. let bad : ⊥ = omega arith in bad) in
+    cond-false (ltb (e .op .steps) n) None _ A ∙ cond-false (eqb ((e .op .steps - n) % 2) 0) None _ B
+
+pub closed-again : {S V : Type 0} (n s : ℕ) (e : Entry S V) → n ≤ e .op .steps → (e .op .steps - n) % 2 ≡ 0 → open-record n s e ≡ None
+closed-again n s e le even =
+    let A = le-ltb (e .op .steps) n le in
+    let B = eq-eqb ((e .op .steps - n) % 2) 0 even in
+    cond-false (ltb (e .op .steps) n) None _ A ∙ cond-true (eqb ((e .op .steps - n) % 2) 0) None _ B
 
 module _ {S V : Type 0} {m : Make S} {origin : Record S V} {n count moment : ℕ} {c : Cells (Record S V)} {row : ℕ → Row} {ent : ℕ → Entry S V} {i s steps : ℕ} (h : Here m origin n count moment c row ent i s steps) where
   pub fits : Busy-fits n c count s i steps (ent i)
