@@ -6,3 +6,4 @@ mod Rows
 mod Collecting
 mod Stamping
 mod Spreading
+mod Finishing
