@@ -7,3 +7,4 @@ mod Collecting
 mod Stamping
 mod Spreading
 mod Finishing
+mod Telling
