@@ -8,3 +8,4 @@ mod Stamping
 mod Spreading
 mod Finishing
 mod Telling
+mod Banking
