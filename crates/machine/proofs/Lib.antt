@@ -9,3 +9,4 @@ mod Spreading
 mod Finishing
 mod Telling
 mod Banking
+mod Stepping
