@@ -10,3 +10,4 @@ mod Finishing
 mod Telling
 mod Banking
 mod Stepping
+mod Acting

@@ -67,22 +67,22 @@ module _ {S V : Type 0} (m : Make S) (laws : Laws m) (M : Machine S V) (b : Book
   unreachable p = ((λ e. let z : ⊥ = omega arith in absurd z, λ e. omega arith, λ e. omega arith), kept)
 
   module _ (i c : ℕ) (inside-s : inside (M .stations) s ≡ true) (busy : row-of (M .rows) s ≡ Busy i c) where
-    h : Here m (M .origin) (M .stations) (M .used) (M .moment) (cells-of (M .bank)) (row-of (M .rows)) (kept .ent) i s c
+    pub h : Here m (M .origin) (M .stations) (M .used) (M .moment) (cells-of (M .bank)) (row-of (M .rows)) (kept .ent) i s c
     h = record { inv = kept .inv; known = inside-s; busy = busy }
 
     abbrev e : Entry S V
     e = kept .ent i
 
-    op-is : b .operation (b .latest s) ≡ e .op
+    pub op-is : b .operation (b .latest s) ≡ e .op
     op-is = ap (b .operation) (kept .told .latest s i c inside-s busy) ∙ kept .told .operations i (fits h .low) (fits h .high)
 
-    now : b .moment + 1 ≡ M .moment + 1
+    pub now : b .moment + 1 ≡ M .moment + 1
     now = ap (λ t. t + 1) (sym (kept .told .moments))
 
-    same-row : (j t : ℕ) → Busy i (c + 1) ≡ Busy j t → j ≡ i
+    pub same-row : (j t : ℕ) → Busy i (c + 1) ≡ Busy j t → j ≡ i
     same-row j t q = cc
 
-    idle-row : (j t : ℕ) → Idle ≡ Busy j t → j ≡ i
+    pub idle-row : (j t : ℕ) → Idle ≡ Busy j t → j ≡ i
     idle-row j t q = cc
 
     -- what the read answered
