@@ -11,3 +11,4 @@ mod Telling
 mod Banking
 mod Stepping
 mod Acting
+mod Opening
