@@ -12,3 +12,4 @@ mod Banking
 mod Stepping
 mod Acting
 mod Opening
+mod Opened
