@@ -13,3 +13,5 @@ mod Stepping
 mod Acting
 mod Opening
 mod Opened
+mod Making
+mod Playing
