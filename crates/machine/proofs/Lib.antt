@@ -15,3 +15,4 @@ mod Opening
 mod Opened
 mod Making
 mod Playing
+mod Seen
