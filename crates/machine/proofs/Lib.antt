@@ -16,3 +16,4 @@ mod Opened
 mod Making
 mod Playing
 mod Seen
+mod Lawful
