@@ -74,6 +74,7 @@ module _ {S V : Type 0} (m : Make S) (laws : Laws m) (M : Machine S V) (b : Book
       where
         inside-c : inside (M .stations) (c + 1) ≡ true
         inside-c = and-from _ _ (le-leb 1 (c + 1) (omega arith)) (le-leb (c + 1) (M .stations) (omega arith))
+
         cell : (x : Record S V) × (M .bank .settled (c + 1) s ≡ Some x)
         cell = kept .inv .full (c + 1) s (and-from (inside (M .stations) (c + 1)) (inside (M .stations) s) inside-c inside-s)
 
@@ -88,6 +89,7 @@ module _ {S V : Type 0} (m : Make S) (laws : Laws m) (M : Machine S V) (b : Book
             let g : e .op .steps ≡ c = fits h .taken in
             let lt : (c - M .stations) / 2 < M .stations = let q = stamped-since h past .3 in omega arith in
             start-cases (M .bank) s (spread-to s ((c - M .stations) / 2)) (rec e) (known-cell s _ inside-s (spreads-once (M .stations) s .known _ lt)) (fits h .middle ∙ closed-again (M .stations) s e (omega arith) (omega arith)) (λ p. on.After m laws M b kept s (spread M s i c (p .0) (p .1))) (starting past even) (on.unreachable m laws M b kept s)
+
         at-finish : M .stations ≤ c → (c - M .stations) % 2 ≡ 1 → on.After m laws M b kept s (settle M s i c l (finish (M .bank) s .0) (finish (M .bank) s .1))
         at-finish past odd =
             finish-cases (M .bank) s (spread-to s ((c - M .stations) / 2)) (rec e) (subst (λ n. inside n s ≡ true) (sym (kept .told .bank)) inside-s) (open-here laws h past odd) (λ p. on.After m laws M b kept s (settle M s i c l (p .0) (p .1))) (finishing past odd) (on.unreachable m laws M b kept s)

@@ -24,6 +24,7 @@ module _ {S V : Type 0} (bank : Meaning (Record S V)) where
     where
       settled : P (record-or-4 (bank .settled w r))
       settled = subst (λ o. P (record-or-4 o)) (sym full) (ok y (as-settled r (and-parts (inside (bank .stations) w) _ k .1) full))
+
       by-open : (o : Option (ℕ × Record S V)) → bank .opened w ≡ o → P (record-or-4 (chosen o r choice (bank .settled w r)))
       by-open None e = settled
       by-open (Some o) e = cond-both (eqb (o .0) r && choice) (Some (o .1)) (bank .settled w r) (λ u. P (record-or-4 u)) (λ _. ok (o .1) (as-open (o .0) e)) (λ _. settled)

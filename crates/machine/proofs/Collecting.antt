@@ -70,6 +70,7 @@ module _ {S V : Type 0} {m : Make S} (laws : Laws m) {origin : Record S V} {n co
     where
       before : ent a .op .station < ent i .op .steps + 1 → AtMost m (ent a .stamp) (met-stamp m (ent i) x)
       before l = at-most-trans m laws _ _ _ (h .inv .later a i la (fits h .high) u d lt (omega arith) .at-most) above-old
+
       here : ent i .op .steps + 1 ≤ ent a .op .station → AtMost m (ent a .stamp) (met-stamp m (ent i) x)
       here ge =
           let g : ent i .op .steps ≡ steps = fits h .taken in

@@ -96,8 +96,10 @@ module _ {S V : Type 0} (m : Make S) (laws : Laws m) (M : Machine S V) (b : Book
     where
       sw : at.Shown m M b notes kept w (r .1)
       sw = at.shown m M b notes kept w (r .1) (r .3)
+
       same : r .0 ≡ x
       same = some-in _ _ (sym (r .2) ∙ e)
+
       by : (k : Kind) → r .0 .kind ≡ k → r .1 .stamp ≡ r .0 .stamp
       by Write k = let aw : a ≡ w = subst (λ q. Rests-by q a w (r .0) (r .1)) k (r .5) in ap (λ (z : Stamped S V). z .stamp) (some-in _ _ (sym (r .3) ∙ ap (stamped h) (sym aw) ∙ r .2))
       by Read k = subst (λ q. Rests-by q a w (r .0) (r .1)) k (r .5) .1
@@ -107,6 +109,7 @@ module _ {S V : Type 0} (m : Make S) (laws : Laws m) (M : Machine S V) (b : Book
     where
       sa : at.Shown m M b notes kept a x
       sa = at.shown m M b notes kept a x e
+
       by : (k : Kind) → x .kind ≡ k → (w : ℕ) × Rests h a w
       by Write k = (a, (x, x, e, e, k, subst (λ q. Rests-by q a a x x) (sym k) refl))
       by Read k =

@@ -17,3 +17,4 @@ mod Making
 mod Playing
 mod Seen
 mod Lawful
+mod Whole

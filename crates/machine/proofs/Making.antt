@@ -88,18 +88,20 @@ pub making : {S V : Type 0} (m : Make S) (laws : Laws m) (bank : Meaning (Record
 making {S} {V} m laws bank n k v lines size M =
     cond-both (inside 16 n) _ _ P
     (λ hn. cond-both (eqb n (bank .stations)) _ _ P
-      (λ hb. cond-both (leb k (m .greatest)) _ _ P
-        (λ hk. cond-both (leb size 4096 && leb size (length lines)) _ _ P
-          (λ hs. first (inside-parts 16 n hn .0) (inside-parts 16 n hn .1) (eqb-true _ _ hb) (leb-true k (m .greatest) hk) (leb-true size (length lines) (and-parts (leb size 4096) _ hs .1)))
-          (λ _ e. refused _ e))
-        (λ _ e. refused _ e))
-      (λ _ e. refused _ e))
+    (λ hb. cond-both (leb k (m .greatest)) _ _ P
+    (λ hk. cond-both (leb size 4096 && leb size (length lines)) _ _ P
+    (λ hs. first (inside-parts 16 n hn .0) (inside-parts 16 n hn .1) (eqb-true _ _ hb) (leb-true k (m .greatest) hk) (leb-true size (length lines) (and-parts (leb size 4096) _ hs .1)))
+    (λ _ e. refused _ e))
+    (λ _ e. refused _ e))
+    (λ _ e. refused _ e))
     (λ _ e. refused _ e)
   where
     P : Result (Machine S V) Refusal → Type 0
     P a = a ≡ Ok M → Kept m M empty-book
+
     refused : (q : Refusal) → Err q ≡ Ok M → Kept m M empty-book
     refused q e = let z : _≡_ {A = ℕ} 0 1 = cc in let bad : ⊥ = omega arith in absurd bad
+
     first : 1 ≤ n → n ≤ 16 → n ≡ bank .stations → k ≤ m .greatest → size ≤ length lines → P (made bank n v lines size (m .first k))
     first some few stations le room =
         let f = laws .first-stamp k le in

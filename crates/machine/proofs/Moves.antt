@@ -74,11 +74,13 @@ module _ {S V : Type 0} where
     where
       P : ℕ → Entry S V → Type 0
       P k f = k ≡ b .by → (f .op .kind ≡ Write) × (f .op .stamped ≡ Some (b .at)) × (f .stamp ≡ s) × (f .value ≡ v)
+
       same : i ≡ b .by → (e .op .kind ≡ Write) × (e .op .stamped ≡ Some (b .at)) × (e .stamp ≡ s) × (e .value ≡ v)
       same h =
           let st : ent i .op .stamped ≡ Some (b .at) = subst (λ j. ent j .op .stamped ≡ Some (b .at)) (sym h) (b .stamped) in
           let fr = g .frozen (b .at) st in
           (g .kind ∙ subst (λ j. ent j .op .kind ≡ Write) (sym h) (b .write), fr .0, fr .1 ∙ subst (λ j. ent j .stamp ≡ s) (sym h) (b .stamp), fr .2 ∙ subst (λ j. ent j .value ≡ v) (sym h) (b .value))
+
       all : (at-row ent i e (b .by) .op .kind ≡ Write) × (at-row ent i e (b .by) .op .stamped ≡ Some (b .at)) × (at-row ent i e (b .by) .stamp ≡ s) × (at-row ent i e (b .by) .value ≡ v)
       all = split ent i e P (b .by) same (λ _ _. (b .write, b .stamped, b .stamp, b .value)) refl
 

@@ -59,6 +59,7 @@ module _ {S : Type 0} (m : Make S) (laws : Laws m) where
     where
       zero-not-one : _≡_ {A = ℕ} 0 1 → ⊥
       zero-not-one z = omega arith
+
       fresh : m .count s < m .greatest → (m .smaller s t ≡ true) × (m .owner t ≡ w)
       fresh lt =
           let f = laws .next-stamp s w le lt in

@@ -33,6 +33,7 @@ module _ {S V : Type 0} {m : Make S} {origin : Record S V} {n count moment : ℕ
     where
       g : ent i .op .steps ≡ steps
       g = fits h .taken
+
       go : Phase n moment (ent i) → (t : ℕ) × (ent i .op .stamped ≡ Some t) × (t ≤ moment) × (steps < 3 * n)
       go (collecting a b k) = let q = g in let bad : ⊥ = omega arith in absurd bad
       go (spreading t a b k l f) = (t, b, k, let q = g in omega arith)
@@ -45,6 +46,7 @@ module _ {S V : Type 0} {m : Make S} {origin : Record S V} {n count moment : ℕ
     where
       write : ent i .op .kind ≡ Write → Backed ent count (moment + 1) (ent i .stamp) (ent i .value)
       write k = record { by = i; low = fits h .high; write = k; at = stamped-since .0; stamped = stamped-since .1; before = let q = stamped-since .2 in omega arith; stamp = refl; value = refl }
+
       read : ent i .op .kind ≡ Read → Backed ent count (moment + 1) (ent i .stamp) (ent i .value)
       read k = backed-on (moment + 1) (let q = stamped-since .2 in omega arith) (subst (λ t. Backed ent count (valueOr t (moment + 1)) (ent i .stamp) (ent i .value)) (stamped-since .1) (h .inv .reads i (fits h .high) k))
 
@@ -53,6 +55,7 @@ module _ {S V : Type 0} {m : Make S} {origin : Record S V} {n count moment : ℕ
     where
       same : a ≡ i → AtMost m (ent a .stamp) (ent i .stamp)
       same e = absurd (none-some _ _ (fits h .going) (subst (λ k. Done-at (ent k) u) e d))
+
       earlier : a < i → AtMost m (ent a .stamp) (ent i .stamp)
       earlier lt =
           let o = h .inv .order a i la (fits h .high) lt (st ∙ sym (fits h .station)) in
@@ -62,6 +65,7 @@ module _ {S V : Type 0} {m : Make S} {origin : Record S V} {n count moment : ℕ
           let g : ent i .op .steps ≡ steps = fits h .taken in
           let high = h .inv .sound a la .high in
           h .inv .later a i la (fits h .high) u d (omega arith) (omega arith) .at-most
+
       later : i < a → AtMost m (ent a .stamp) (ent i .stamp)
       later gt = let o = h .inv .order i a (fits h .high) la gt (fits h .station ∙ sym st) in absurd (none-some _ _ (fits h .going) (o .ended))
 
@@ -111,6 +115,7 @@ module _ {S V : Type 0} {m : Make S} {origin : Record S V} {n count moment : ℕ
     where
       r : ℕ
       r = spread-to s ((steps - n) / 2)
+
       held : (w : ℕ) (x : Record S V) → Held n (start-cells r) w x → Held n c w x ⊎ Put m ent count moment s w x
       held w x (as-settled q k p) = inl (as-settled q k p)
       held w x (as-open q p) = split (c .opened) s (Some (r, rec (ent i))) (λ w′ o. o ≡ Some (q, x) → Held n c w′ x ⊎ Put m ent count moment s w′ x) w (λ e. inr (put x (sym (some-pair _ _ _ _ e .1)))) (λ _ e. inl (as-open q e)) p

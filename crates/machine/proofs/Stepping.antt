@@ -50,6 +50,7 @@ module _ {S V : Type 0} where
     where
       l : Line S V
       l = account (e .op) (e .stamp) (e .value)
+
       go : (b : Bool) → cond b (holding l (x .tag) (value-of (e .op .kind) (e .value) (x .value))) l ≡ account (e .op) (cond b (x .tag) (e .stamp)) (cond b (value-of (e .op .kind) (e .value) (x .value)) (e .value))
       go true = refl
       go false = refl

@@ -98,12 +98,15 @@ module _ {S V : Type 0} {m : Make S} (M : Machine S V) (b : Book S V) (ent : ℕ
     where
       rows : (w : ℕ) → inside (M .stations) w ≡ true → row-of (set (M .rows) (s - 1) r) w ≡ at-row (row-of (M .rows)) s r w
       rows = set-row (M .rows) (M .stations) s r (told .rows) (told .stations) (h .known)
+
       is-i : b .latest s ≡ i
       is-i = told .latest s i steps (h .known) (h .busy)
+
       at-both : (k : ℕ) → 1 ≤ k → k ≤ M .used → at-row (b .operation) (b .latest s) o k ≡ at-row ent i e k .op
       at-both k lo hi =
           subst (λ j. at-row (b .operation) j o k ≡ at-row ent i e k .op) (sym is-i)
           (split (b .operation) i o (λ k′ q. k′ ≡ k → q ≡ at-row ent i e k .op) k (λ ik. same ∙ ap (λ (f : Entry S V). f .op) (sym (subst (λ j. at-row ent i e j ≡ e) ik (at-same ent i e)))) (λ ne _. told .operations k lo hi ∙ ap (λ (f : Entry S V). f .op) (sym (at-other ent i e k ne))) refl)
+
       latest : (w j t : ℕ) → inside (M .stations) w ≡ true → row-of (set (M .rows) (s - 1) r) w ≡ Busy j t → b .latest w ≡ j
       latest w j t k eq =
           split (row-of (M .rows)) s r (λ v q. v ≡ w → q ≡ Busy j t → b .latest w ≡ j) w (λ sw rj. ap (b .latest) (sym sw) ∙ is-i ∙ sym (row-is j t rj)) (λ ne _ rj. told .latest w j t k rj) refl (sym (rows w k) ∙ eq)
