@@ -102,7 +102,7 @@ module _ {S V : Type 0} (m : Make S) (laws : Laws m) where
   act-kept M b (step-call s choice) k = step-kept m laws M b k s choice
   act-kept M b (mark-call w r up) k = (tt, mark-kept M b w r up k)
 
-  pub play-kept : (calls : List (Call V)) (M : Machine S V) (b : Book S V) (n : ℕ) → M .stations ≡ n → Kept m M b → All (Clean n) (play m M calls .0) × Kept m (play m M calls .1) (observed n b (play m M calls .0)) × (play m M calls .1 .stations ≡ n) × (play m M calls .1 .origin ≡ M .origin)
+  pub play-kept : (calls : List (Call V)) (M : Machine S V) (b : Book S V) (n : ℕ) → M .stations ≡ n → Kept m M b → All (Clean n) (play (act m) M calls .0) × Kept m (play (act m) M calls .1) (observed n b (play (act m) M calls .0)) × (play (act m) M calls .1 .stations ≡ n) × (play (act m) M calls .1 .origin ≡ M .origin)
   play-kept [] M b n e k = (tt, k, e, refl)
   play-kept (c ∷ cs) M b n e k =
       let one = subst (λ q. Clean q (act m M c .0) × Kept m (act m M c .1) (note q b (act m M c .0))) e (act-kept M b c k) in

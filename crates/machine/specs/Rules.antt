@@ -25,7 +25,7 @@ use Rattle.banks.specs.declared.record.Record.{Record}
 use Rattle.banks.specs.Meanings.{Meaning, inside}
 use Rattle.stamps.specs.Makes.{Make}
 use Rattle.machine.specs.Machines.{Machine, make}
-use Rattle.machine.specs.Runs.{Call, Note, write-note, read-note, step-note, mark-note, play}
+use Rattle.machine.specs.Runs.{Call, Note, write-note, read-note, step-note, mark-note, act, play}
 use Rattle.machine.specs.Histories.{End, as-done, as-spent, Operation, Book, empty-book, observed}
 use Rattle.machine.specs.declared.line.Kind.{Kind}
 use Rattle.machine.specs.declared.line.Kind.the-variants.{Write, Read}
@@ -53,16 +53,18 @@ pub record Stamped (S V : Type 0) : Type 0 where
   pub value : V
 
 module _ {S V : Type 0} where
-  abbrev pub history : Make S → Machine S V → List (Call V) → History S V
-  history m M calls =
+  -- the history of a run from M, where acts says what a call does
+  abbrev pub history : (Machine S V → Call V → Note S V × Machine S V) → Machine S V → List (Call V) → History S V
+  history acts M calls =
+      let run = play acts M calls in
       record {
         stations = M .stations;
         origin = M .origin;
-        notes = play m M calls .0;
-        book = observed (M .stations) empty-book (play m M calls .0);
-        moment = play m M calls .1 .moment;
-        lines = play m M calls .1 .lines;
-        used = play m M calls .1 .used;
+        notes = run .0;
+        book = observed (M .stations) empty-book (run .0);
+        moment = run .1 .moment;
+        lines = run .1 .lines;
+        used = run .1 .used;
       }
 
   -- the starting record counts as a write by nobody, opened, stamped and ended at moment 0
@@ -174,4 +176,4 @@ module _ {S V : Type 0} where
 -- at least size lines, size up to 4096; and every list of calls, with every choice
 abbrev pub Law-of-runs : {S : Type 0} (V : Type 0) → Make S → Type 0
 Law-of-runs {S} V m =
-    (bank : Meaning (Record S V)) (n k : ℕ) (v : V) (lines : List (Line S V)) (size : ℕ) (M : Machine S V) → make m bank n k v lines size ≡ Ok M → (calls : List (Call V)) → Law m (history m M calls)
+    (bank : Meaning (Record S V)) (n k : ℕ) (v : V) (lines : List (Line S V)) (size : ℕ) (M : Machine S V) → make m bank n k v lines size ≡ Ok M → (calls : List (Call V)) → Law m (history (act m) M calls)
