@@ -18,3 +18,4 @@ mod Playing
 mod Seen
 mod Lawful
 mod Whole
+mod Witnesses
