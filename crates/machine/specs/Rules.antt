@@ -5,7 +5,8 @@
 --     account o s v       the journal line of operation o, with stamp s and value v
 --     Accounted n ls k o  what the law says of operation k and its line
 --     Law m h             the law
---     Law-of-runs m       the law of every run of every register whose make was accepted
+--     Law-of-runs V m     the law of every run of every register whose make was accepted
+--     Refusals-leave V m  a refused call changes nothing, unless the refusal is 14
 use mathlib.Core.Path.{_≡_}
 use mathlib.Core.Bool.{Bool, true, false, cond}
 use mathlib.Core.List.{List}
@@ -177,3 +178,15 @@ module _ {S V : Type 0} where
 abbrev pub Law-of-runs : {S : Type 0} (V : Type 0) → Make S → Type 0
 Law-of-runs {S} V m =
     (bank : Meaning (Record S V)) (n k : ℕ) (v : V) (lines : List (Line S V)) (size : ℕ) (M : Machine S V) → make m bank n k v lines size ≡ Ok M → (calls : List (Call V)) → Law m (history (act m) M calls)
+
+-- the call of this note was refused with e
+abbrev pub Refused-by : {S V : Type 0} → Refusal → Note S V → Type 0
+Refused-by e (write-note s v a) = a ≡ Err e
+Refused-by e (read-note s a) = a ≡ Err e
+Refused-by e (step-note s a) = a ≡ Err e
+Refused-by e (mark-note w r up a) = a ≡ Err e
+
+-- a refusal changes nothing, unless it is 14
+abbrev pub Refusals-leave : {S : Type 0} (V : Type 0) → Make S → Type 0
+Refusals-leave {S} V m =
+    (M : Machine S V) (c : Call V) (e : Refusal) → Refused-by e (act m M c .0) → (number-of e ≡ 14 → ⊥) → act m M c .1 ≡ M
