@@ -17,10 +17,9 @@ use Rattle.machine.specs.Histories.{End, as-done, as-spent, Operation, Book}
 use Rattle.machine.specs.Rules.{History, Stamped, end-moment, stamped, Rests-by, Rests, Accounted, Clean, Law}
 use Rattle.machine.specs.declared.line.Kind.{Kind}
 use Rattle.machine.specs.declared.line.Kind.the-variants.{Write, Read}
+use Rattle.machine.proofs.Basics.{none-some, some-in, some-pair}
 use Rattle.machine.proofs.Entries.{Entry, Done-at, Phase, collecting, spreading, finished, refused, Sound, Above, Kept}
 use Rattle.machine.proofs.Orders.{smaller-not-same}
-use Rattle.machine.proofs.Moved.{none-some, some-pair}
-use Rattle.machine.proofs.Collecting.{kinds}
 use Rattle.machine.proofs.Seen as at
 
 done-not-spent : {S V : Type 0} (s : S) (v : V) → as-done s v ≡ as-spent → ⊥
@@ -86,9 +85,6 @@ module _ {S V : Type 0} (m : Make S) (laws : Laws m) (M : Machine S V) (b : Book
 
   unique : (a c : ℕ) (s : S) → Writes a s → Writes c s → a ≡ c
   unique a c s x y = ⊎-elim (λ e. e) (⊎-elim (λ lt. absurd (apart a c s lt x y)) (λ gt. absurd (apart c a s gt y x))) (cases-order a c)
-
-  some-in : (x y : Stamped S V) → Some x ≡ Some y → x ≡ y
-  some-in x y q = cc
 
   -- what rests on w has w's stamp
   rests-on : (a w : ℕ) (x : Stamped S V) → stamped h a ≡ Some x → Rests h a w → Writes w (x .stamp)

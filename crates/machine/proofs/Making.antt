@@ -22,9 +22,8 @@ use Rattle.machine.specs.declared.line.Kind.the-variants.{Write, Read}
 use Rattle.machine.specs.declared.line.Line.{Line}
 use Rattle.machine.specs.declared.row.Row.{Row}
 use Rattle.machine.specs.declared.row.Row.the-variants.{Idle, Busy}
-use Rattle.machine.proofs.Entries.{Entry, Cells, Held, as-settled, as-open, cells-of, start-entry, finished, Sound, Backed, Row-fits, Inv, Told, Kept}
-use Rattle.machine.proofs.Moved.{none-some}
-use Rattle.machine.proofs.Telling.{inside-parts}
+use Rattle.machine.proofs.Basics.{none-some, inside-parts}
+use Rattle.machine.proofs.Entries.{Entry, Point, Held, as-settled, as-open, point-of, start-entry, finished, Backed, Row-fits, Kept}
 
 same-everywhere : {X : Type 0} (n i : ℕ) (x : X) → getD (replicate n x) i x ≡ x
 same-everywhere zero i x = refl
@@ -38,12 +37,12 @@ module _ {S V : Type 0} (m : Make S) (laws : Laws m) (bank : Meaning (Record S V
   abbrev new : Machine S V
   new = record { stations = n; bank = filled bank x; origin = x; lines = lines; used = 0; size = size; moment = 0; rows = replicate 16 Idle }
 
-  abbrev cells : Cells (Record S V)
-  cells = cells-of (filled bank x)
+  abbrev σ : Point S V
+  σ = point-of new ent
 
-  held : (w : ℕ) (y : Record S V) → Held n cells w y → Backed ent 0 1 (y .tag) (y .value)
+  held : (w : ℕ) (y : Record S V) → Held n (σ .cells) w y → Backed σ 1 (y .tag) (y .value)
   held w y (as-settled r k p) =
-      subst (λ (z : Record S V). Backed ent 0 1 (z .tag) (z .value)) (is p) (record { by = 0; low = le-refl 0; write = refl; at = 0; stamped = refl; before = omega arith; stamp = refl; value = refl })
+      subst (λ (z : Record S V). Backed σ 1 (z .tag) (z .value)) (is p) (record { by = 0; low = le-refl 0; write = refl; at = 0; stamped = refl; before = omega arith; stamp = refl; value = refl })
     where
       is : cond (known (bank .stations) w r) (Some x) None ≡ Some y → x ≡ y
       is = cond-both (known (bank .stations) w r) (Some x) None (λ o. o ≡ Some y → x ≡ y) (λ _ e. cc) (λ _ e. absurd (none-some _ _ refl e))
@@ -65,7 +64,7 @@ module _ {S V : Type 0} (m : Make S) (laws : Laws m) (bank : Meaning (Record S V
               reads = λ k le e. let z : _≡_ {A = ℕ} 0 1 = cc in let bad : ⊥ = omega arith in absurd bad;
               kept = held;
               above = λ a u lo hi. let z : ⊥ = omega arith in absurd z;
-              rows = λ s k. subst (Row-fits n 0 cells ent 0 s) (sym (idle s)) (refl, λ j le e. let p = inside-parts n s k .0 in let z : ⊥ = omega arith in absurd z);
+              rows = λ s k. subst (Row-fits σ s) (sym (idle s)) (refl, λ j le e. let p = inside-parts n s k .0 in let z : ⊥ = omega arith in absurd z);
               full = λ w r k. (x, cond-true (known (bank .stations) w r) (Some x) None (subst (λ q. known q w r ≡ true) stations k));
             };
         told =

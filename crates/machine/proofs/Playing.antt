@@ -36,9 +36,9 @@ module _ {S V : Type 0} (m : Make S) (laws : Laws m) where
           }
 
   act-kept : (M : Machine S V) (b : Book S V) (c : Call V) → Kept m M b → Clean (M .stations) (act m M c .0) × Kept m (act m M c .1) (note (M .stations) b (act m M c .0))
-  act-kept M b (write-call s v) k = (tt, open-kept m laws M b k s Write (Some v) v (λ e. cc) (λ e. cc) (λ u e. cc))
-  act-kept M b (read-call s) k = (tt, open-kept m laws M b k s Read None (M .origin .value) (λ e. refl) (λ e. refl) (λ u e. cc))
-  act-kept M b (step-call s choice) k = step-kept m laws M b k s choice
+  act-kept M b (write-call s v) k = (tt, open-kept laws k s Write (Some v) v (λ e. cc) (λ e. cc) (λ u e. cc))
+  act-kept M b (read-call s) k = (tt, open-kept laws k s Read None (M .origin .value) (λ e. refl) (λ e. refl) (λ u e. cc))
+  act-kept M b (step-call s choice) k = step-kept laws k s choice
   act-kept M b (mark-call w r up) k = (tt, mark-kept M b w r up k)
 
   pub play-kept : (calls : List (Call V)) (M : Machine S V) (b : Book S V) (n : ℕ) → M .stations ≡ n → Kept m M b → All (Clean n) (play (act m) M calls .0) × Kept m (play (act m) M calls .1) (observed n b (play (act m) M calls .0)) × (play (act m) M calls .1 .stations ≡ n) × (play (act m) M calls .1 .origin ≡ M .origin)
