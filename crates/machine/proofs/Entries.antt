@@ -8,8 +8,7 @@
 --     Row-fits            what holds of a station's row and its cells
 --     Inv                 the invariant;  Told: how machine and book tell the entries
 use mathlib.Core.Path.{_≡_}
-use mathlib.Core.Bool.{Bool, true, false, cond}
-use mathlib.Core.List.{List}
+use mathlib.Core.Bool.{true, false, cond}
 use Prim.Native.Nat.{ℕ, _+_, _-_, _*_, _/_, _%_, _≤_, _<_}
 use lib.Dec.{eqb, ltb}
 use lib.ListN.{length}
@@ -24,7 +23,6 @@ use Rattle.machine.specs.Machines.{Machine, row-of}
 use Rattle.machine.specs.Steps.{spread-to}
 use Rattle.machine.specs.Histories.{End, as-done, as-spent, Operation, Book}
 use Rattle.machine.specs.Rules.{account}
-use Rattle.machine.specs.declared.line.Kind.{Kind}
 use Rattle.machine.specs.declared.line.Kind.the-variants.{Write, Read}
 use Rattle.machine.specs.declared.row.Row.{Row}
 use Rattle.machine.specs.declared.row.Row.the-variants.{Idle, Busy}

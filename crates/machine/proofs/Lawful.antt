@@ -1,9 +1,9 @@
 -- From the invariant to the law. Assumes nothing.
 use mathlib.Core.Path.{_≡_, refl, sym, _∙_, subst, ap}
-use mathlib.Core.Bool.{Bool, true, false, cond}
+use mathlib.Core.Bool.{true, false}
 use mathlib.Core.List.{List}
-use mathlib.Core.Logic.{⊎-elim, _≢_, _↔_}
-use Prim.Native.Nat.{ℕ, _+_, _-_, _*_, _≤_, _<_}
+use mathlib.Core.Logic.{⊎-elim, _↔_}
+use Prim.Native.Nat.{ℕ, _+_, _*_, _≤_, _<_}
 use native.Mathlib.Omega.{arith}
 use Rattle.std.specs.Options.{valueOr}
 use Rattle.std.specs.shelf.Lists.{All}
@@ -13,8 +13,8 @@ use Rattle.std.specs.declared.option.Option.the-variants.{None, Some}
 use Rattle.stamps.specs.Makes.{Make, Laws}
 use Rattle.machine.specs.Machines.{Machine}
 use Rattle.machine.specs.Runs.{Note}
-use Rattle.machine.specs.Histories.{End, as-done, as-spent, Operation, Book}
-use Rattle.machine.specs.Rules.{History, Stamped, end-moment, stamped, Rests-by, Rests, Accounted, Clean, Law}
+use Rattle.machine.specs.Histories.{End, as-done, as-spent, Book}
+use Rattle.machine.specs.Rules.{History, Stamped, stamped, Rests-by, Rests, Accounted, Clean, Law}
 use Rattle.machine.specs.declared.line.Kind.{Kind}
 use Rattle.machine.specs.declared.line.Kind.the-variants.{Write, Read}
 use Rattle.machine.proofs.Basics.{none-some, some-in, some-pair}

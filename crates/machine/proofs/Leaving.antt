@@ -1,7 +1,7 @@
 -- What every call leaves: the station count and the starting record, and all else if it is refused with another refusal than
 -- 14. Assumes nothing.
-use mathlib.Core.Path.{_≡_, refl, sym, _∙_, subst, ap}
-use mathlib.Core.Bool.{Bool, true, false, cond}
+use mathlib.Core.Path.{_≡_, refl, sym, ap}
+use mathlib.Core.Bool.{Bool}
 use Prim.Native.Nat.{ℕ, _+_, _-_, _*_, _/_, _%_}
 use native.Mathlib.Omega.{arith}
 use lib.Dec.{eqb, leb, ltb}
@@ -21,7 +21,7 @@ use Rattle.stamps.specs.Makes.{Make}
 use Rattle.machine.specs.Machines.{Machine, row-of, record-of, open-row, open-line, mark-cell, with-bank}
 use Rattle.machine.specs.Steps.{spread-to, stamp-write, stamp-line, collect, collected, spread, settle, step-line, step-row, step}
 use Rattle.machine.specs.Runs.{Call, write-call, read-call, step-call, mark-call, act}
-use Rattle.machine.specs.Rules.{Refused-by, Refusals-leave}
+use Rattle.machine.specs.Rules.{Refusals-leave}
 use Rattle.machine.specs.declared.line.Kind.{Kind}
 use Rattle.machine.specs.declared.line.Kind.the-variants.{Write, Read}
 use Rattle.machine.specs.declared.line.Line.{Line}

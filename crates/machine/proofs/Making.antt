@@ -1,14 +1,13 @@
 -- A new register: what is kept holds before the first call. Assumes nothing.
-use mathlib.Core.Path.{_≡_, refl, sym, _∙_, subst, ap}
-use mathlib.Core.Bool.{Bool, true, false, cond, _&&_}
+use mathlib.Core.Path.{_≡_, refl, sym, subst}
+use mathlib.Core.Bool.{true, cond, _&&_}
 use mathlib.Core.List.{List}
-use Prim.Native.Nat.{ℕ, zero, suc, _+_, _-_, _*_, _≤_, _<_}
+use Prim.Native.Nat.{ℕ, zero, suc, _-_, _≤_}
 use native.Mathlib.Nat.{le-refl}
 use native.Mathlib.Omega.{arith}
 use lib.Dec.{eqb, leb}
 use lib.ListN.{length, getD, replicate}
 use Rattle.std.proofs.shelf.Tests.{cond-both, cond-true, and-parts, leb-true, eqb-true}
-use Rattle.std.specs.declared.option.Option.{Option}
 use Rattle.std.specs.declared.option.Option.the-variants.{None, Some}
 use Rattle.std.specs.declared.result.Result.{Result}
 use Rattle.std.specs.declared.result.Result.the-variants.{Ok, Err}
@@ -17,11 +16,9 @@ use Rattle.banks.specs.declared.record.Record.{Record}
 use Rattle.banks.specs.Meanings.{Meaning, inside, known, filled}
 use Rattle.stamps.specs.Makes.{Make, Laws}
 use Rattle.machine.specs.Machines.{Machine, row-of, made, make}
-use Rattle.machine.specs.Histories.{Book, empty-book}
-use Rattle.machine.specs.declared.line.Kind.the-variants.{Write, Read}
+use Rattle.machine.specs.Histories.{empty-book}
 use Rattle.machine.specs.declared.line.Line.{Line}
-use Rattle.machine.specs.declared.row.Row.{Row}
-use Rattle.machine.specs.declared.row.Row.the-variants.{Idle, Busy}
+use Rattle.machine.specs.declared.row.Row.the-variants.{Idle}
 use Rattle.machine.proofs.Basics.{none-some, inside-parts}
 use Rattle.machine.proofs.Entries.{Entry, Point, Held, as-settled, as-open, point-of, start-entry, finished, Backed, Row-fits, Kept}
 

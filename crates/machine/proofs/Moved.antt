@@ -7,7 +7,7 @@ use native.Mathlib.Nat.{le-refl}
 use native.Mathlib.Omega.{arith}
 use Rattle.std.specs.Options.{valueOr}
 use Rattle.banks.specs.declared.record.Record.{Record}
-use Rattle.banks.specs.Meanings.{inside, at-row}
+use Rattle.banks.specs.Meanings.{inside}
 use Rattle.stamps.specs.Makes.{Make}
 use Rattle.machine.specs.declared.line.Kind.the-variants.{Read}
 use Rattle.machine.specs.declared.row.Row.{Row}

@@ -1,25 +1,20 @@
 -- A step of one operation keeps the invariant, once a few facts are shown of it. Assumes nothing.
 --     Move                what is to show of a step: entry i becomes e, the cells c become d, the row of s becomes r
 --     moved               then the invariant holds again
-use mathlib.Core.Path.{_≡_, refl, sym, _∙_, subst, ap}
-use mathlib.Core.Bool.{Bool, true, false, cond}
-use mathlib.Core.Logic.{_⊎_, inl, inr, _≢_}
+use mathlib.Core.Path.{_≡_, refl, sym, _∙_, subst}
+use mathlib.Core.Bool.{true}
+use mathlib.Core.Logic.{_⊎_, _≢_}
 use Prim.Native.Nat.{ℕ, _+_, _≤_, _<_}
 use native.Mathlib.Nat.{le-refl}
 use native.Mathlib.Omega.{arith}
-use lib.Dec.{eqb}
 use Rattle.std.specs.Options.{valueOr}
-use Rattle.std.proofs.shelf.Tests.{both-ways, cases-bool, cond-both, eqb-true, eqb-false}
-use Rattle.std.specs.declared.option.Option.{Option}
-use Rattle.std.specs.declared.option.Option.the-variants.{None, Some}
+use Rattle.std.specs.declared.option.Option.the-variants.{Some}
 use Rattle.banks.specs.declared.record.Record.{Record}
-use Rattle.banks.specs.Meanings.{inside, known, at-row}
-use Rattle.stamps.specs.Makes.{Make, Laws}
-use Rattle.machine.specs.Histories.{End, as-done, as-spent, Operation}
-use Rattle.machine.specs.declared.line.Kind.{Kind}
-use Rattle.machine.specs.declared.line.Kind.the-variants.{Write, Read}
+use Rattle.banks.specs.Meanings.{known, at-row}
+use Rattle.stamps.specs.Makes.{Make}
+use Rattle.machine.specs.Histories.{End}
+use Rattle.machine.specs.declared.line.Kind.the-variants.{Read}
 use Rattle.machine.specs.declared.row.Row.{Row}
-use Rattle.machine.specs.declared.row.Row.the-variants.{Idle, Busy}
 use Rattle.machine.proofs.Entries.{Entry, Cells, Point, Held, AtMost, Done-at, Phase, collecting, spreading, finished, refused, Sound, Backed, Above, Row-fits}
 
 module _ {S V : Type 0} where

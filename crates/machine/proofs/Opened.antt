@@ -1,10 +1,9 @@
 -- An open keeps what is kept, as the machine and the book tell it. Assumes nothing.
 use mathlib.Core.Path.{_≡_, refl, sym, _∙_, subst, ap}
-use mathlib.Core.Bool.{Bool, true, false, cond, _&&_}
-use mathlib.Core.Logic.{_≢_}
+use mathlib.Core.Bool.{true}
 use Prim.Native.Nat.{ℕ, _+_, _-_, _≤_, _<_}
 use native.Mathlib.Omega.{arith}
-use lib.Dec.{eqb, leb, ltb}
+use lib.Dec.{leb, ltb}
 use lib.ListN.{length, set}
 use Rattle.std.specs.shelf.Maps.{nth}
 use Rattle.std.proofs.shelf.Lists.{length-set}
@@ -12,7 +11,7 @@ use Rattle.std.proofs.shelf.Tests.{cond-both, ltb-true}
 use Rattle.std.specs.declared.option.Option.{Option}
 use Rattle.std.specs.declared.option.Option.the-variants.{None, Some}
 use Rattle.std.specs.declared.result.Result.{Result}
-use Rattle.std.specs.declared.result.Result.the-variants.{Ok, Err}
+use Rattle.std.specs.declared.result.Result.the-variants.{Ok}
 use Rattle.policy.specs.declared.refusal.Refusal.{Refusal}
 use Rattle.banks.specs.Meanings.{inside, at-row}
 use Rattle.stamps.specs.Makes.{Make, Laws}
@@ -20,7 +19,7 @@ use Rattle.machine.specs.Machines.{Machine, row-of, next-machine, fresh, open-
 use Rattle.machine.specs.Histories.{Operation, Book, note-open}
 use Rattle.machine.specs.Rules.{account}
 use Rattle.machine.specs.declared.line.Kind.{Kind}
-use Rattle.machine.specs.declared.line.Kind.the-variants.{Write, Read}
+use Rattle.machine.specs.declared.line.Kind.the-variants.{Read}
 use Rattle.machine.specs.declared.row.Row.{Row}
 use Rattle.machine.specs.declared.row.Row.the-variants.{Idle, Busy}
 use Rattle.machine.proofs.Basics.{split, at-same, at-other, nth-set-same, nth-set-other}

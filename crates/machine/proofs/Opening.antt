@@ -3,7 +3,7 @@
 use mathlib.Core.Path.{_≡_, refl, sym, _∙_, subst, ap}
 use mathlib.Core.Bool.{true}
 use mathlib.Core.Logic.{_≢_, ⊎-elim}
-use Prim.Native.Nat.{ℕ, _+_, _≤_, _<_}
+use Prim.Native.Nat.{ℕ, _+_, _≤_}
 use native.Mathlib.Nat.{le-refl}
 use native.Mathlib.Omega.{arith}
 use Rattle.std.specs.Options.{valueOr}
@@ -14,7 +14,7 @@ use Rattle.banks.specs.declared.record.Record.{Record}
 use Rattle.banks.specs.Meanings.{inside, at-row}
 use Rattle.stamps.specs.Makes.{Make, Laws}
 use Rattle.machine.specs.declared.line.Kind.{Kind}
-use Rattle.machine.specs.declared.line.Kind.the-variants.{Write, Read}
+use Rattle.machine.specs.declared.line.Kind.the-variants.{Read}
 use Rattle.machine.specs.declared.row.Row.{Row}
 use Rattle.machine.specs.declared.row.Row.the-variants.{Idle, Busy}
 use Rattle.machine.proofs.Basics.{none-some, valueOr-on, inside-parts, split, at-same, at-other}

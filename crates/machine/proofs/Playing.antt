@@ -7,13 +7,13 @@ use Rattle.std.specs.shelf.Lists.{All}
 use Rattle.std.proofs.shelf.Tests.{cond-both}
 use Rattle.std.specs.declared.option.Option.the-variants.{None, Some}
 use Rattle.std.specs.declared.result.Result.{Result}
-use Rattle.std.specs.declared.result.Result.the-variants.{Ok, Err}
+use Rattle.std.specs.declared.result.Result.the-variants.{Ok}
 use Rattle.policy.specs.declared.refusal.Refusal.{Refusal}
 use Rattle.banks.specs.declared.record.Record.{Record}
 use Rattle.banks.specs.Meanings.{Meaning, marked, mark, known}
 use Rattle.stamps.specs.Makes.{Make, Laws}
 use Rattle.machine.specs.Machines.{Machine, with-bank}
-use Rattle.machine.specs.Runs.{Call, write-call, read-call, step-call, mark-call, Note, act, play}
+use Rattle.machine.specs.Runs.{Call, write-call, read-call, step-call, mark-call, act, play}
 use Rattle.machine.specs.Histories.{Book, note, observed}
 use Rattle.machine.specs.Rules.{Clean}
 use Rattle.machine.specs.declared.line.Kind.the-variants.{Write, Read}

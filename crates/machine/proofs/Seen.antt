@@ -1,11 +1,10 @@
 -- What the history of a run shows of a stamped operation is what its entry has. Assumes nothing.
 --     seen e t            a stamped entry, as the law sees it
 --     Shown               the entry behind a stamped operation of the history
-use mathlib.Core.Path.{_≡_, refl, sym, _∙_, subst, ap}
-use mathlib.Core.Bool.{Bool, true, false, cond}
+use mathlib.Core.Path.{_≡_, refl, sym, _∙_, ap}
 use mathlib.Core.List.{List}
-use mathlib.Core.Logic.{⊎-elim, _≢_}
-use Prim.Native.Nat.{ℕ, _+_, _-_, _*_, _≤_, _<_}
+use mathlib.Core.Logic.{⊎-elim}
+use Prim.Native.Nat.{ℕ, _-_, _≤_, _<_}
 use native.Mathlib.Omega.{arith}
 use lib.Dec.{eqb, leb}
 use Rattle.std.specs.Options.{valueOr}
@@ -16,7 +15,7 @@ use Rattle.std.specs.declared.option.Option.the-variants.{None, Some}
 use Rattle.stamps.specs.Makes.{Make}
 use Rattle.machine.specs.Machines.{Machine}
 use Rattle.machine.specs.Runs.{Note}
-use Rattle.machine.specs.Histories.{End, as-done, as-spent, Operation, Book}
+use Rattle.machine.specs.Histories.{End, as-done, Operation, Book}
 use Rattle.machine.specs.Rules.{History, Stamped, starting, end-moment, stamped-with, stamped, account}
 use Rattle.machine.proofs.Basics.{none-some, some-in, some-pair}
 use Rattle.machine.proofs.Entries.{Entry, Done-at, Phase, collecting, spreading, finished, refused, Kept}

@@ -5,7 +5,7 @@ use mathlib.Core.Path.{_≡_, refl, sym, _∙_, subst, ap}
 use mathlib.Core.Bool.{true}
 use mathlib.Core.List.{List}
 use mathlib.Core.Logic.{_≢_}
-use Prim.Native.Nat.{ℕ, _+_, _-_, _≤_, _<_}
+use Prim.Native.Nat.{ℕ, _+_, _-_, _≤_}
 use native.Mathlib.Nat.{le-refl}
 use native.Mathlib.Omega.{arith}
 use lib.ListN.{length, set}
@@ -22,7 +22,7 @@ use Rattle.machine.specs.declared.line.Line.{Line}
 use Rattle.machine.specs.declared.row.Row.{Row}
 use Rattle.machine.specs.declared.row.Row.the-variants.{Idle, Busy}
 use Rattle.machine.proofs.Basics.{inside-parts, split, at-same, at-other, nth-set-same, nth-set-other}
-use Rattle.machine.proofs.Entries.{Entry, Point, cells-of, point-of, Backed, Row-fits, Inv, Told, Kept}
+use Rattle.machine.proofs.Entries.{Entry, Point, cells-of, point-of, Backed, Row-fits, Inv, Kept}
 use Rattle.machine.proofs.Moved.{moved}
 use Rattle.machine.proofs.Moves.{Move, unchanged, backed-in}
 use Rattle.machine.proofs.Rows.{Here, fits}

@@ -1,14 +1,13 @@
 -- The law of every run. Assumes nothing.
-use mathlib.Core.Path.{_≡_, refl, sym, subst}
-use mathlib.Core.List.{List}
+use mathlib.Core.Path.{refl, sym, subst}
 use Prim.Native.Nat.{ℕ}
 use Rattle.std.specs.shelf.Lists.{All}
 use Rattle.banks.specs.declared.record.Record.{Record}
 use Rattle.stamps.specs.Makes.{Make, Laws}
 use Rattle.machine.specs.Machines.{Machine}
-use Rattle.machine.specs.Runs.{Call, act, play}
+use Rattle.machine.specs.Runs.{act, play}
 use Rattle.machine.specs.Histories.{empty-book, observed}
-use Rattle.machine.specs.Rules.{History, history, Clean, Law, Law-of-runs}
+use Rattle.machine.specs.Rules.{History, Clean, Law, Law-of-runs}
 use Rattle.machine.proofs.Lawful.{lawful}
 use Rattle.machine.proofs.Making.{making}
 use Rattle.machine.proofs.Playing.{play-kept}
