@@ -27,7 +27,7 @@ use Rattle.machine.proofs.Spreading.{Past, start-move, stamped-since, spread-o
 use Rattle.machine.proofs.Stepping.{After, unreachable, going-op, op-is, now, same-row, no-row, collect-kept}
 use Rattle.machine.proofs.Telling.{line-set, line-stays, moved-told}
 
-module _ {S V : Type 0} {m : Make S} (laws : Laws m) {M : Machine S V} {b : Book S V} (kept : Kept m M b) {i s c : ℕ} (h : Here m (point-of M (kept .ent)) i s c) where
+module _ {S V : Type 0} {m : Make S} (laws : Laws m) {M : Machine S V} {b : Book S V} {old : Machine S V} (kept : Kept m old M b) {i s c : ℕ} (h : Here m (point-of M (kept .ent)) i s c) where
   abbrev n : ℕ
   n = M .stations
 
@@ -89,7 +89,7 @@ module _ {S V : Type 0} {m : Make S} (laws : Laws m) {M : Machine S V} {b : Book
       cond-both (ltb c n) _ _ (After kept s) (λ lt. reading choice (ltb-true _ _ lt))
       (λ ge. let late : Past m (point-of M (kept .ent)) i s c = record { here = h; past = ltb-false _ _ ge } in cond-both (eqb ((c - n) % 2) 0) _ _ (After kept s) (λ even. starting late (eqb-true _ _ even)) (λ odd. finishing late (let o = eqb-false _ _ odd in omega arith)))
 
-module _ {S V : Type 0} {m : Make S} (laws : Laws m) {M : Machine S V} {b : Book S V} (kept : Kept m M b) (s : ℕ) where
+module _ {S V : Type 0} {m : Make S} (laws : Laws m) {M : Machine S V} {b : Book S V} {old : Machine S V} (kept : Kept m old M b) (s : ℕ) where
   by-row : (choice : Bool) (r : Row) → row-of (M .rows) s ≡ r → inside (M .stations) s ≡ true → After kept s (step-row m M choice s r)
   by-row choice Idle q k = ((λ q. let z : ⊥ = omega arith in absurd z, λ q. omega arith, λ q. omega arith), kept)
   by-row choice (Busy i c) q k = subst (λ o. After kept s (step-line m M choice s i c o)) (sym (kept .told .lines i (fits h .low) (fits h .high))) (staged laws kept h choice)

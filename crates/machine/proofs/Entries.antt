@@ -169,8 +169,12 @@ module _ {S V : Type 0} where
     pub rows : (s : ℕ) → inside (σ .stations) s ≡ true → Row-fits σ s (σ .row s)
     pub full : (w r : ℕ) → known (σ .stations) w r ≡ true → (x : Record S V) × (σ .cells .settled w r ≡ Some x)
 
-  -- how the machine and the book tell the entries
-  pub record Told (M : Machine S V) (b : Book S V) (ent : ℕ → Entry S V) : Type 0 where
+  -- how the machine and the book tell the entries, in a run from old
+  pub record Told (old M : Machine S V) (b : Book S V) (ent : ℕ → Entry S V) : Type 0 where
+    pub same-stations : M .stations ≡ old .stations
+    pub same-origin : M .origin ≡ old .origin
+    -- the lines not in use
+    pub rest : (k : ℕ) → M .used ≤ k → nth (M .lines) k ≡ nth (old .lines) k
     pub some : 1 ≤ M .stations
     pub stations : M .stations ≤ 16
     pub bank : M .bank .stations ≡ M .stations
@@ -183,7 +187,7 @@ module _ {S V : Type 0} where
     pub lines : (k : ℕ) → 1 ≤ k → k ≤ M .used → nth (M .lines) (k - 1) ≡ Some (account (ent k .op) (ent k .stamp) (ent k .value))
     pub latest : (s i c : ℕ) → inside (M .stations) s ≡ true → row-of (M .rows) s ≡ Busy i c → b .latest s ≡ i
 
-  pub record Kept (m : Make S) (M : Machine S V) (b : Book S V) : Type 0 where
+  pub record Kept (m : Make S) (old M : Machine S V) (b : Book S V) : Type 0 where
     pub ent : ℕ → Entry S V
     pub inv : Inv m (point-of M ent)
-    pub told : Told M b ent
+    pub told : Told old M b ent

@@ -51,7 +51,7 @@ module _ {S V : Type 0} {n moment : ℕ} {e : Entry S V} where
   spent-at t q (finished u w a b c d f) = absurd (done-not-spent _ _ (some-pair _ _ _ _ (sym a ∙ q) .1))
   spent-at t q (refused u a b c d f) = (f, d, b)
 
-module _ {S V : Type 0} (m : Make S) (laws : Laws m) (M : Machine S V) (b : Book S V) (notes : List (Note S V)) (kept : Kept m M b) where
+module _ {S V : Type 0} (m : Make S) (laws : Laws m) (M : Machine S V) (b : Book S V) (notes : List (Note S V)) {old : Machine S V} (kept : Kept m old M b) where
   abbrev h : History S V
   h = at.told-history m M b notes kept
 
@@ -163,4 +163,5 @@ module _ {S V : Type 0} (m : Make S) (laws : Laws m) (M : Machine S V) (b : Book
         in-use = kept .told .counts;
         accounts = λ k lo hi. let c = kept .told .counts in let le : k ≤ M .used = omega arith in subst (Accounted (M .stations) (M .lines) k) (sym (kept .told .operations k lo le)) (account k lo le);
         clean = clean;
+        rest = kept .told .rest;
       }

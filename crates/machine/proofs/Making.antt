@@ -48,7 +48,7 @@ module _ {S V : Type 0} (m : Make S) (laws : Laws m) (bank : Meaning (Record S V
   idle : (s : ℕ) → row-of (replicate 16 Idle) s ≡ Idle
   idle s = same-everywhere 16 (s - 1) Idle
 
-  base : Kept m new empty-book
+  base : Kept m new new empty-book
   base =
       record {
         ent = ent;
@@ -66,6 +66,9 @@ module _ {S V : Type 0} (m : Make S) (laws : Laws m) (bank : Meaning (Record S V
             };
         told =
             record {
+              same-stations = refl;
+              same-origin = refl;
+              rest = λ k _. refl;
               some = some;
               stations = few;
               bank = sym stations;
@@ -80,7 +83,7 @@ module _ {S V : Type 0} (m : Make S) (laws : Laws m) (bank : Meaning (Record S V
             };
       }
 
-pub making : {S V : Type 0} (m : Make S) (laws : Laws m) (bank : Meaning (Record S V)) (n k : ℕ) (v : V) (lines : List (Line S V)) (size : ℕ) (M : Machine S V) → make m bank n k v lines size ≡ Ok M → Kept m M empty-book
+pub making : {S V : Type 0} (m : Make S) (laws : Laws m) (bank : Meaning (Record S V)) (n k : ℕ) (v : V) (lines : List (Line S V)) (size : ℕ) (M : Machine S V) → make m bank n k v lines size ≡ Ok M → Kept m M M empty-book
 making {S} {V} m laws bank n k v lines size M =
     cond-both (inside 16 n) _ _ P
     (λ hn. cond-both (eqb n (bank .stations)) _ _ P
@@ -93,15 +96,15 @@ making {S} {V} m laws bank n k v lines size M =
     (λ _ e. refused _ e)
   where
     P : Result (Machine S V) Refusal → Type 0
-    P a = a ≡ Ok M → Kept m M empty-book
+    P a = a ≡ Ok M → Kept m M M empty-book
 
-    refused : (q : Refusal) → Err q ≡ Ok M → Kept m M empty-book
+    refused : (q : Refusal) → Err q ≡ Ok M → Kept m M M empty-book
     refused q e = let z : _≡_ {A = ℕ} 0 1 = cc in let bad : ⊥ = omega arith in absurd bad
 
     first : 1 ≤ n → n ≤ 16 → n ≡ bank .stations → k ≤ m .greatest → size ≤ length lines → P (made bank n v lines size (m .first k))
     first some few stations le room =
         let f = laws .first-stamp k le in
-        subst (λ o. P (made bank n v lines size o)) (sym (f .1)) (λ e. subst (λ N. Kept m N empty-book) (ok-in _ M e) (base m laws bank n size lines (record { tag = f .0; value = v }) some few stations room (f .3)))
+        subst (λ o. P (made bank n v lines size o)) (sym (f .1)) (λ e. subst (λ N. Kept m N N empty-book) (ok-in _ M e) (base m laws bank n size lines (record { tag = f .0; value = v }) some few stations room (f .3)))
       where
         ok-in : (N O : Machine S V) → _≡_ {A = Result (Machine S V) Refusal} (Ok N) (Ok O) → N ≡ O
         ok-in N O e = cc

@@ -27,9 +27,9 @@ use Rattle.machine.proofs.Entries.{Entry, point-of, Kept}
 use Rattle.machine.proofs.Opening as one
 use Rattle.machine.proofs.Telling.{set-row, same-rows}
 
-module _ {S V : Type 0} {m : Make S} (laws : Laws m) {M : Machine S V} {b : Book S V} (kept : Kept m M b) (s : ℕ) (kind : Kind) (given : Option V) (v : V) (start-value : kind ≡ Read → v ≡ M .origin .value) (no-given : kind ≡ Read → given ≡ None) (own : (u : V) → given ≡ Some u → v ≡ u) where
+module _ {S V : Type 0} {m : Make S} (laws : Laws m) {M : Machine S V} {b : Book S V} {old : Machine S V} (kept : Kept m old M b) (s : ℕ) (kind : Kind) (given : Option V) (v : V) (start-value : kind ≡ Read → v ≡ M .origin .value) (no-given : kind ≡ Read → given ≡ None) (own : (u : V) → given ≡ Some u → v ≡ u) where
   abbrev After : Result ℕ Refusal × Machine S V → Type 0
-  After p = Kept m (p .1) (note-open b kind s given (p .0))
+  After p = Kept m old (p .1) (note-open b kind s given (p .0))
 
   module _ (h : one.Opens m (point-of M (kept .ent)) s kind given v) (room : M .used < M .size) where
     abbrev i : ℕ
@@ -74,6 +74,9 @@ module _ {S V : Type 0} {m : Make S} (laws : Laws m) {M : Machine S V} {b : Book
           inv = same-rows m (one.opened-point laws h) (row-of (set (M .rows) (s - 1) (Busy i 0))) rows (one.opened laws h);
           told =
               record {
+                same-stations = kept .told .same-stations;
+                same-origin = kept .told .same-origin;
+                rest = λ k le. nth-set-other (M .lines) (M .used) k (fresh M s kind v) (omega arith) ∙ kept .told .rest k (omega arith);
                 some = kept .told .some;
                 stations = kept .told .stations;
                 bank = kept .told .bank;
@@ -92,6 +95,6 @@ module _ {S V : Type 0} {m : Make S} (laws : Laws m) {M : Machine S V} {b : Book
   by-row (Busy j c) q k = kept
   by-row Idle q k = cond-both (ltb (M .used) (M .size)) _ _ After (λ lt. opened (record { inv = kept .inv; some = kept .told .some; known = k; idle = q; start-value = start-value; no-given = no-given; own = own }) (ltb-true _ _ lt)) (λ _. kept)
 
-  pub open-kept : Kept m (open-line M s kind v .1) (note-open b kind s given (open-line M s kind v .0))
+  pub open-kept : Kept m old (open-line M s kind v .1) (note-open b kind s given (open-line M s kind v .0))
   open-kept =
       cond-both (leb (M .size) (length (M .lines))) _ _ After (λ _. cond-both (inside (M .stations) s) _ _ After (λ k. by-row (row-of (M .rows) s) refl k) (λ _. kept)) (λ _. kept)

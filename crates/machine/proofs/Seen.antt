@@ -42,10 +42,10 @@ module _ {S V : Type 0} where
   ended-in None t e = absurd (none-some _ t refl e)
   ended-in (Some p) t e = (p .1, ap (λ u. Some (u, p .1)) (some-in (p .0) t e))
 
-module _ {S V : Type 0} (m : Make S) (M : Machine S V) (b : Book S V) (notes : List (Note S V)) (kept : Kept m M b) where
+module _ {S V : Type 0} (m : Make S) (M : Machine S V) (b : Book S V) (notes : List (Note S V)) {old : Machine S V} (kept : Kept m old M b) where
   abbrev pub told-history : History S V
   told-history =
-      record { stations = M .stations; origin = M .origin; notes = notes; book = b; moment = M .moment; lines = M .lines; used = M .used }
+      record { stations = M .stations; origin = M .origin; notes = notes; book = b; moment = M .moment; before = old .lines; lines = M .lines; used = M .used }
 
   pub record Shown (k : ℕ) (x : Stamped S V) : Type 0 where
     pub low : k ≤ M .used

@@ -52,14 +52,14 @@ module _ {S V : Type 0} where
   going-op o p n t u st en eo et es =
       ap (λ q. with-step q (stamped-by n t q) (en t q)) eo ∙ ap (λ k. with-step p (stamped-by n k p) (en k p)) et ∙ ap (λ k. with-step p k (en u p)) es
 
-module _ {S V : Type 0} {m : Make S} {M : Machine S V} {b : Book S V} (kept : Kept m M b) (s : ℕ) where
+module _ {S V : Type 0} {m : Make S} {M : Machine S V} {b : Book S V} {old : Machine S V} (kept : Kept m old M b) (s : ℕ) where
   abbrev pub After : Result (Stepped S V) Refusal × Machine S V → Type 0
-  After p = Clean (M .stations) (step-note s (p .0)) × Kept m (p .1) (note-step (M .stations) b s (b .operation (b .latest s)) (p .0))
+  After p = Clean (M .stations) (step-note s (p .0)) × Kept m old (p .1) (note-step (M .stations) b s (b .operation (b .latest s)) (p .0))
 
   pub unreachable : (p : Place) → After (Err (refusals.Unreachable p), M)
   unreachable p = ((λ e. let z : ⊥ = omega arith in absurd z, λ e. omega arith, λ e. omega arith), kept)
 
-module _ {S V : Type 0} {m : Make S} {M : Machine S V} {b : Book S V} (kept : Kept m M b) {i s c : ℕ} (h : Here m (point-of M (kept .ent)) i s c) where
+module _ {S V : Type 0} {m : Make S} {M : Machine S V} {b : Book S V} {old : Machine S V} (kept : Kept m old M b) {i s c : ℕ} (h : Here m (point-of M (kept .ent)) i s c) where
   abbrev e : Entry S V
   e = kept .ent i
 
@@ -75,7 +75,7 @@ module _ {S V : Type 0} {m : Make S} {M : Machine S V} {b : Book S V} (kept : Ke
   pub no-row : (j t : ℕ) → Idle ≡ Busy j t → j ≡ i
   no-row j t q = cc
 
-module _ {S V : Type 0} {m : Make S} (laws : Laws m) {M : Machine S V} {b : Book S V} (kept : Kept m M b) {i s c : ℕ} {x : Record S V} (met : Met m (point-of M (kept .ent)) i s c x) where
+module _ {S V : Type 0} {m : Make S} (laws : Laws m) {M : Machine S V} {b : Book S V} {old : Machine S V} (kept : Kept m old M b) {i s c : ℕ} {x : Record S V} (met : Met m (point-of M (kept .ent)) i s c x) where
   abbrev h : Here m (point-of M (kept .ent)) i s c
   h = met .here
 

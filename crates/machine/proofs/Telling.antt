@@ -60,7 +60,7 @@ module _ {S V : Type 0} where
       fit s Idle f = f
       fit s (Busy i t) f = record { low = f .low; high = f .high; station = f .station; going = f .going; taken = f .taken; middle = f .middle; spread = f .spread }
 
-module _ {S V : Type 0} {m : Make S} (M : Machine S V) (b : Book S V) (kept : Kept m M b) {i s steps : ℕ} (h : Here m (point-of M (kept .ent)) i s steps) (e : Entry S V) where
+module _ {S V : Type 0} {m : Make S} (M : Machine S V) (b : Book S V) {old : Machine S V} (kept : Kept m old M b) {i s steps : ℕ} (h : Here m (point-of M (kept .ent)) i s steps) (e : Entry S V) where
   open Kept kept using (ent, told)
 
   abbrev told-line : Entry S V → Line S V
@@ -68,11 +68,11 @@ module _ {S V : Type 0} {m : Make S} (M : Machine S V) (b : Book S V) (kept : Ke
 
   -- the lines after a step tell the entries
   abbrev pub Lines-tell : List (Line S V) → Type 0
-  Lines-tell lines = (length lines ≡ length (M .lines)) × ((k : ℕ) → 1 ≤ k → k ≤ M .used → nth lines (k - 1) ≡ Some (told-line (at-row ent i e k)))
+  Lines-tell lines = (length lines ≡ length (M .lines)) × ((k : ℕ) → 1 ≤ k → k ≤ M .used → nth lines (k - 1) ≡ Some (told-line (at-row ent i e k))) × ((k : ℕ) → M .used ≤ k → nth lines k ≡ nth (M .lines) k)
 
   -- the operation's line is set
   pub line-set : (l : Line S V) → l ≡ account (e .op) (e .stamp) (e .value) → Lines-tell (set (M .lines) (i - 1) l)
-  line-set l eq = (length-set (M .lines) (i - 1) l, λ k lo hi. split ent i e (λ k′ f. 1 ≤ k′ → k′ ≤ M .used → nth (set (M .lines) (i - 1) l) (k′ - 1) ≡ Some (told-line f)) k here there lo hi)
+  line-set l eq = (length-set (M .lines) (i - 1) l, λ k lo hi. split ent i e (λ k′ f. 1 ≤ k′ → k′ ≤ M .used → nth (set (M .lines) (i - 1) l) (k′ - 1) ≡ Some (told-line f)) k here there lo hi, λ k le. let lo = fits h .low in let hi = fits h .high in nth-set-other (M .lines) (i - 1) k l (omega arith))
     where
       here : 1 ≤ i → i ≤ M .used → nth (set (M .lines) (i - 1) l) (i - 1) ≡ Some (told-line e)
       here lo hi = let a = told .room in let z = told .size in nth-set-same (M .lines) (i - 1) l (omega arith) ∙ ap Some eq
@@ -83,7 +83,7 @@ module _ {S V : Type 0} {m : Make S} (M : Machine S V) (b : Book S V) (kept : Ke
   -- or stays
   pub line-stays : account (e .op) (e .stamp) (e .value) ≡ account (ent i .op) (ent i .stamp) (ent i .value) → Lines-tell (M .lines)
   line-stays eq =
-      (refl, λ k lo hi. split ent i e (λ k′ f. 1 ≤ k′ → k′ ≤ M .used → nth (M .lines) (k′ - 1) ≡ Some (told-line f)) k (λ lo′ hi′. told .lines i lo′ hi′ ∙ ap Some (sym eq)) (λ ne lo′ hi′. told .lines k lo′ hi′) lo hi)
+      (refl, λ k lo hi. split ent i e (λ k′ f. 1 ≤ k′ → k′ ≤ M .used → nth (M .lines) (k′ - 1) ≡ Some (told-line f)) k (λ lo′ hi′. told .lines i lo′ hi′ ∙ ap Some (sym eq)) (λ ne lo′ hi′. told .lines k lo′ hi′) lo hi, λ k _. refl)
 
   module _ (bank : Meaning (Record S V)) (lines : List (Line S V)) (r : Row) (o : Operation S V) (stations : bank .stations ≡ M .stations) (tell : Lines-tell lines) (same : o ≡ e .op) (row-is : (j t : ℕ) → r ≡ Busy j t → j ≡ i) (move : Move m (point-of M ent) (cells-of bank) i s e r) where
     rows : (w : ℕ) → inside (M .stations) w ≡ true → row-of (set (M .rows) (s - 1) r) w ≡ at-row (row-of (M .rows)) s r w
@@ -101,13 +101,16 @@ module _ {S V : Type 0} {m : Make S} (M : Machine S V) (b : Book S V) (kept : Ke
     latest w j t k eq =
         split (row-of (M .rows)) s r (λ v q. v ≡ w → q ≡ Busy j t → b .latest w ≡ j) w (λ sw rj. ap (b .latest) (sym sw) ∙ is-i ∙ sym (row-is j t rj)) (λ ne _ rj. told .latest w j t k rj) refl (sym (rows w k) ∙ eq)
 
-    pub moved-told : Kept m (next-machine M bank lines (M .used) s r) (note-accepted b s o)
+    pub moved-told : Kept m old (next-machine M bank lines (M .used) s r) (note-accepted b s o)
     moved-told =
         record {
           ent = at-row ent i e;
           inv = same-rows m _ (row-of (set (M .rows) (s - 1) r)) rows (moved h move);
           told =
               record {
+                same-stations = told .same-stations;
+                same-origin = told .same-origin;
+                rest = λ k le. tell .2 k le ∙ told .rest k le;
                 some = told .some;
                 stations = told .stations;
                 bank = stations;

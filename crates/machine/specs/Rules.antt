@@ -33,13 +33,14 @@ use Rattle.machine.specs.declared.line.LineState.{LineState}
 use Rattle.machine.specs.declared.line.LineState.the-variants.{Collecting, Spreading, Done, Spent}
 use Rattle.machine.specs.declared.line.Line.{Line}
 
--- The journal: the handed lines after the run, and how many are in use.
+-- The journal: the handed lines before and after the run, and how many are in use.
 pub record History (S V : Type 0) : Type 0 where
   pub stations : ℕ
   pub origin : Record S V
   pub notes : List (Note S V)
   pub book : Book S V
   pub moment : ℕ
+  pub before : List (Line S V)
   pub lines : List (Line S V)
   pub used : ℕ
 
@@ -63,6 +64,7 @@ module _ {S V : Type 0} where
         notes = run .0;
         book = observed (M .stations) empty-book (run .0);
         moment = run .1 .moment;
+        before = M .lines;
         lines = run .1 .lines;
         used = run .1 .used;
       }
@@ -170,6 +172,8 @@ module _ {S V : Type 0} where
     pub moments : h .moment ≡ h .book .moment
     pub in-use : h .used ≡ h .book .count
     pub accounts : (k : ℕ) → 1 ≤ k → k ≤ h .book .count → Accounted (h .stations) (h .lines) k (h .book .operation k)
+    -- the lines not in use keep what they held
+    pub rest : (k : ℕ) → h .used ≤ k → nth (h .lines) k ≡ nth (h .before) k
     pub clean : All (Clean (h .stations)) (h .notes)
 
 -- for every bank of n stations, 1 to 16; every starting count k up to the greatest; every starting value; every journal of
