@@ -1,0 +1,23 @@
+mod Acting
+mod Banking
+mod Basics
+mod Collecting
+mod Entries
+mod Finishing
+mod Lawful
+mod Leaving
+mod Making
+mod Moved
+mod Moves
+mod Opened
+mod Opening
+mod Orders
+mod Playing
+mod Rows
+mod Seen
+mod Spreading
+mod Stamping
+mod Stepping
+mod Telling
+pub mod Whole
+mod Witnesses
