@@ -1,1 +1,6 @@
+pub mod Boards
+pub mod Bottoms
+pub mod Cells
+pub mod Marks
 pub mod Meanings
+pub mod Notes

@@ -1,0 +1,5 @@
+pub mod Boards
+pub mod Bottoms
+pub mod Noting
+pub mod Placing
+pub mod Tables
