@@ -2,4 +2,5 @@ pub mod Boards
 pub mod Bottoms
 pub mod Noting
 pub mod Placing
+pub mod Posts
 pub mod Tables

@@ -4,3 +4,4 @@ pub mod Cells
 pub mod Marks
 pub mod Meanings
 pub mod Notes
+pub mod Posts

@@ -3,5 +3,6 @@ pub mod bank;
 pub mod board;
 mod cell;
 mod notes;
+pub mod post;
 pub mod record;
 mod table;
