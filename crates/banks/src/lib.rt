@@ -2,7 +2,9 @@
 pub mod bank;
 pub mod board;
 mod cell;
+mod layer;
 mod notes;
 pub mod post;
 pub mod record;
+pub mod split;
 mod table;
