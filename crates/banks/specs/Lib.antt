@@ -1,1 +1,9 @@
+pub mod Boards
+pub mod Bottoms
+pub mod Cells
+pub mod Layers
+pub mod Marks
 pub mod Meanings
+pub mod Notes
+pub mod Posts
+pub mod Splits

@@ -1,5 +1,6 @@
 -- What a bank of cells means, and what each call answers and leaves. Assumes nothing.
 --     Meaning R                       a bank over records of the type R, as its calls see it
+--     Stationed m                     m has 1 to 16 stations
 --     inside n w                      w is one of the stations 1 to n
 --     filled m x                      m with every cell settled on x, nothing open, all cells reachable
 --     read m c w r                    what a read of cell (w, r) answers and leaves; c: of two records, the open one
@@ -7,7 +8,7 @@
 --     mark m w r up, located m w r    the same
 use mathlib.Core.Path.{_≡_}
 use mathlib.Core.Bool.{Bool, true, false, cond, _&&_}
-use Prim.Native.Nat.{ℕ}
+use Prim.Native.Nat.{ℕ, _≤_}
 use lib.Dec.{eqb, leb}
 use Rattle.std.specs.declared.option.Option.{Option}
 use Rattle.std.specs.declared.option.Option.the-variants.{None, Some}
@@ -29,6 +30,9 @@ pub record Meaning (R : Type 0) : Type 0 where
   pub opened : ℕ → Option (ℕ × R)
   pub reachable : ℕ → ℕ → Bool
   pub place : ℕ → ℕ → Place
+
+abbrev pub Stationed : {R : Type 0} → Meaning R → Type 0
+Stationed m = (1 ≤ m .stations) × (m .stations ≤ 16)
 
 abbrev pub inside : ℕ → ℕ → Bool
 inside n w = leb 1 w && leb w n
@@ -57,11 +61,11 @@ module _ {R : Type 0} where
       }
 
   -- the record that a read answers: the settled one, unless o is open for r and the bank chooses it
-  abbrev chosen : Option (ℕ × R) → ℕ → Bool → Option R → Option R
+  abbrev pub chosen : Option (ℕ × R) → ℕ → Bool → Option R → Option R
   chosen None r c settled = settled
   chosen (Some o) r c settled = cond (eqb (o .0) r && c) (Some (o .1)) settled
 
-  abbrev record-or-4 : Option R → Result R Refusal
+  abbrev pub record-or-4 : Option R → Result R Refusal
   record-or-4 None = Err UnknownStation
   record-or-4 (Some x) = Ok x
 
@@ -73,7 +77,7 @@ module _ {R : Type 0} where
     m,
   )
 
-  abbrev started : Meaning R → ℕ → ℕ → R → Meaning R
+  abbrev pub started : Meaning R → ℕ → ℕ → R → Meaning R
   started m w r x =
       record {
         stations = m .stations;
@@ -83,7 +87,7 @@ module _ {R : Type 0} where
         place = m .place;
       }
 
-  abbrev start-at : Option (ℕ × R) → Meaning R → ℕ → ℕ → R → Result (Unit {0}) Refusal × Meaning R
+  abbrev pub start-at : Option (ℕ × R) → Meaning R → ℕ → ℕ → R → Result (Unit {0}) Refusal × Meaning R
   start-at None m w r x = (Ok tt, started m w r x)
   start-at (Some o) m w r x = (Err RecordOpen, m)
 
@@ -93,7 +97,7 @@ module _ {R : Type 0} where
       (cond (m .reachable w r) (start-at (m .opened w) m w r x) (Err (Unreachable (m .place w r)), m))
       (Err UnknownStation, m)
 
-  abbrev finished : Meaning R → ℕ → ℕ → R → Meaning R
+  abbrev pub finished : Meaning R → ℕ → ℕ → R → Meaning R
   finished m w r x =
       record {
         stations = m .stations;
@@ -103,7 +107,7 @@ module _ {R : Type 0} where
         place = m .place;
       }
 
-  abbrev finish-at : Option (ℕ × R) → Meaning R → ℕ → Result (Unit {0}) Refusal × Meaning R
+  abbrev pub finish-at : Option (ℕ × R) → Meaning R → ℕ → Result (Unit {0}) Refusal × Meaning R
   finish-at None m w = (Err NothingOpen, m)
   finish-at (Some o) m w =
       cond (m .reachable w (o .0)) (Ok tt, finished m w (o .0) (o .1)) (Err (Unreachable (m .place w (o .0))), m)
@@ -111,7 +115,7 @@ module _ {R : Type 0} where
   abbrev pub finish : Meaning R → ℕ → Result (Unit {0}) Refusal × Meaning R
   finish m w = cond (inside (m .stations) w) (finish-at (m .opened w) m w) (Err UnknownStation, m)
 
-  abbrev marked : Meaning R → ℕ → ℕ → Bool → Meaning R
+  abbrev pub marked : Meaning R → ℕ → ℕ → Bool → Meaning R
   marked m w r up =
       record {
         stations = m .stations;

@@ -1,2 +1,10 @@
 // Banks of cells, each written by one station and read by one.
+pub mod bank;
+pub mod board;
+mod cell;
+mod layer;
+mod notes;
+pub mod post;
 pub mod record;
+pub mod split;
+mod table;

@@ -1,0 +1,9 @@
+pub mod Boards
+pub mod Bottoms
+pub mod Layers
+pub mod Noting
+pub mod Placing
+pub mod Posts
+pub mod Splits
+pub mod Stations
+pub mod Tables
