@@ -1,0 +1,5 @@
+pub mod Histories
+pub mod Machines
+pub mod Rules
+pub mod Runs
+pub mod Steps
