@@ -54,15 +54,15 @@ module _ {S : Type 0} (m : Make S) (laws : Laws m) where
   smaller-not-same s t h e = both-ways (m .smaller t t) (at-most-refl t) (subst (λ x. m .smaller x t ≡ true) e h)
 
   -- a next stamp is greater, and its owner is the station that took it
-  pub next-stamps : (s t : S) (w : ℕ) → w ≤ 16 → m .next s w ≡ Some t → (m .smaller s t ≡ true) × (m .owner t ≡ w)
-  next-stamps s t w le e = ⊎-elim fresh (λ ge. let z : _≡_ {A = ℕ} 0 1 = cc (laws .spent s w ge) in absurd (zero-not-one z)) (cases-lt (m .count s) (m .greatest))
+  pub next-stamps : (s t : S) (w : ℕ) → 1 ≤ w → w ≤ 16 → m .next s w ≡ Some t → (m .smaller s t ≡ true) × (m .owner t ≡ w)
+  next-stamps s t w some le e = ⊎-elim fresh (λ ge. let z : _≡_ {A = ℕ} 0 1 = cc (laws .spent s w some le ge) in absurd (zero-not-one z)) (cases-lt (m .count s) (m .greatest))
     where
       zero-not-one : _≡_ {A = ℕ} 0 1 → ⊥
       zero-not-one z = omega arith
 
       fresh : m .count s < m .greatest → (m .smaller s t ≡ true) × (m .owner t ≡ w)
       fresh lt =
-          let f = laws .next-stamp s w le lt in
+          let f = laws .next-stamp s w some le lt in
           let same-stamp : f .0 ≡ t = cc (f .1) in
           let up : m .count s < m .count (f .0) = omega (arith, f .2) in
           (subst (λ x. m .smaller s x ≡ true) same-stamp (laws .by-count s (f .0) up), subst (λ x. m .owner x ≡ w) same-stamp (f .3))

@@ -49,10 +49,10 @@ module _ {S V : Type 0} {m : Make S} (laws : Laws m) {origin : Record S V} {n co
       let g : ent i .op .steps ≡ steps = fits h .taken in
       collect-move laws h early x held (Some (moment + 1)) (ent i .op .ended) _ (Busy i (steps + 1)) (at-most-refl m laws _) (spreading (moment + 1) (fits h .going) refl (le-refl _) (omega arith) (omega arith)) (λ t w _. absurd (not-both _ w read)) (λ u q e. absurd (none-some _ _ (fits h .going) e)) (λ k. backed-met laws h early x held k) (busy-row h c _ (collect-fits _ _ _))
 
-  pub write-move : steps + 1 ≡ n → ent i .op .kind ≡ Write → s ≤ 16 → (z : S) → m .next (met-stamp m (ent i) x) s ≡ Some z → Move m n count moment c c ent i s (stepped-to (ent i) (Some (moment + 1)) (ent i .op .ended) z (met-value m (ent i) x)) (Busy i (steps + 1))
-  write-move eq write le z next =
+  pub write-move : steps + 1 ≡ n → ent i .op .kind ≡ Write → 1 ≤ s → s ≤ 16 → (z : S) → m .next (met-stamp m (ent i) x) s ≡ Some z → Move m n count moment c c ent i s (stepped-to (ent i) (Some (moment + 1)) (ent i .op .ended) z (met-value m (ent i) x)) (Busy i (steps + 1))
+  write-move eq write some le z next =
       let g : ent i .op .steps ≡ steps = fits h .taken in
-      let up = next-stamps m laws _ z s le next in
+      let up = next-stamps m laws _ z s some le next in
       collect-move laws h early x held (Some (moment + 1)) (ent i .op .ended) z (Busy i (steps + 1)) (smaller-at-most m laws _ _ (up .0)) (spreading (moment + 1) (fits h .going) refl (le-refl _) (omega arith) (omega arith)) (λ t w _. (up .1 ∙ sym (fits h .station), up .0)) (λ u q e. absurd (none-some _ _ (fits h .going) e)) (λ k. absurd (not-both _ write k)) (busy-row h c _ (collect-fits _ _ _))
 
   pub spent-move : steps + 1 ≡ n → ent i .op .kind ≡ Write → Move m n count moment c c ent i s (stepped-to (ent i) (ent i .op .stamped) (Some (moment + 1, as-spent)) (met-stamp m (ent i) x) (met-value m (ent i) x)) Idle

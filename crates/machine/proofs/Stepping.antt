@@ -118,7 +118,7 @@ module _ {S V : Type 0} (m : Make S) (laws : Laws m) (M : Machine S V) (b : Book
 
       by-next : c + 1 ≡ M .stations → e .op .kind ≡ Write → (z : Option S) → m .next (met-stamp m e x) s ≡ z → After (stamp-write M s i l (c + 1) z)
       by-next eq write None _ = spent eq write
-      by-next eq write (Some z) next = stamped eq z (write-move laws h early x held eq write (let p = inside-parts (M .stations) s inside-s .1 in let q = kept .told .stations in omega arith) z next)
+      by-next eq write (Some z) next = stamped eq z (write-move laws h early x held eq write (inside-parts (M .stations) s inside-s .0) (let p = inside-parts (M .stations) s inside-s .1 in let q = kept .told .stations in omega arith) z next)
 
       by-kind : c + 1 ≡ M .stations → (k : Kind) → e .op .kind ≡ k → After (stamp-line m M s i l (c + 1) k)
       by-kind eq Write k = by-next eq k (m .next (met-stamp m e x) s) refl

@@ -1,0 +1,2 @@
+// The register: up to 16 stations hold one value together, each able to replace it.
+pub mod journal;
