@@ -1,1 +1,3 @@
-
+pub mod Owing
+pub mod Rows
+pub mod Seen

@@ -38,7 +38,12 @@ impl<'a, L: Copy> Journal<'a, L> {
         ensures { λ r. ⌜ r ≡ nth (now (now (self .entry) .lines)) (number - 1) ⌝ }
     {
         let lines = &*self.lines;
-        lines.get(number.saturating_sub(1) as usize).copied()
+        let at = number.saturating_sub(1) as usize;
+        if at < lines.len() {
+            Some(lines[at])
+        } else {
+            None
+        }
     }
 
     // Replaces the line with that number; nothing changes where there is none.

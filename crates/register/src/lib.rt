@@ -1,2 +1,4 @@
 // The register: up to 16 stations hold one value together, each able to replace it.
 pub mod journal;
+pub mod register;
+pub mod table;
