@@ -17,4 +17,6 @@ mod Making
 mod Playing
 mod Seen
 mod Lawful
+mod Leaving
 mod Whole
+mod Witnesses

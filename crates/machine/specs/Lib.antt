@@ -3,3 +3,4 @@ pub mod Machines
 pub mod Rules
 pub mod Runs
 pub mod Steps
+pub mod Wrong

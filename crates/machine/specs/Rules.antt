@@ -5,7 +5,8 @@
 --     account o s v       the journal line of operation o, with stamp s and value v
 --     Accounted n ls k o  what the law says of operation k and its line
 --     Law m h             the law
---     Law-of-runs m       the law of every run of every register whose make was accepted
+--     Law-of-runs V m     the law of every run of every register whose make was accepted
+--     Refusals-leave V m  a refused call changes nothing, unless the refusal is 14
 use mathlib.Core.Path.{_≡_}
 use mathlib.Core.Bool.{Bool, true, false, cond}
 use mathlib.Core.List.{List}
@@ -25,7 +26,7 @@ use Rattle.banks.specs.declared.record.Record.{Record}
 use Rattle.banks.specs.Meanings.{Meaning, inside}
 use Rattle.stamps.specs.Makes.{Make}
 use Rattle.machine.specs.Machines.{Machine, make}
-use Rattle.machine.specs.Runs.{Call, Note, write-note, read-note, step-note, mark-note, play}
+use Rattle.machine.specs.Runs.{Call, Note, write-note, read-note, step-note, mark-note, act, play}
 use Rattle.machine.specs.Histories.{End, as-done, as-spent, Operation, Book, empty-book, observed}
 use Rattle.machine.specs.declared.line.Kind.{Kind}
 use Rattle.machine.specs.declared.line.Kind.the-variants.{Write, Read}
@@ -53,16 +54,18 @@ pub record Stamped (S V : Type 0) : Type 0 where
   pub value : V
 
 module _ {S V : Type 0} where
-  abbrev pub history : Make S → Machine S V → List (Call V) → History S V
-  history m M calls =
+  -- the history of a run from M, where acts says what a call does
+  abbrev pub history : (Machine S V → Call V → Note S V × Machine S V) → Machine S V → List (Call V) → History S V
+  history acts M calls =
+      let run = play acts M calls in
       record {
         stations = M .stations;
         origin = M .origin;
-        notes = play m M calls .0;
-        book = observed (M .stations) empty-book (play m M calls .0);
-        moment = play m M calls .1 .moment;
-        lines = play m M calls .1 .lines;
-        used = play m M calls .1 .used;
+        notes = run .0;
+        book = observed (M .stations) empty-book (run .0);
+        moment = run .1 .moment;
+        lines = run .1 .lines;
+        used = run .1 .used;
       }
 
   -- the starting record counts as a write by nobody, opened, stamped and ended at moment 0
@@ -174,4 +177,16 @@ module _ {S V : Type 0} where
 -- at least size lines, size up to 4096; and every list of calls, with every choice
 abbrev pub Law-of-runs : {S : Type 0} (V : Type 0) → Make S → Type 0
 Law-of-runs {S} V m =
-    (bank : Meaning (Record S V)) (n k : ℕ) (v : V) (lines : List (Line S V)) (size : ℕ) (M : Machine S V) → make m bank n k v lines size ≡ Ok M → (calls : List (Call V)) → Law m (history m M calls)
+    (bank : Meaning (Record S V)) (n k : ℕ) (v : V) (lines : List (Line S V)) (size : ℕ) (M : Machine S V) → make m bank n k v lines size ≡ Ok M → (calls : List (Call V)) → Law m (history (act m) M calls)
+
+-- the call of this note was refused with e
+abbrev pub Refused-by : {S V : Type 0} → Refusal → Note S V → Type 0
+Refused-by e (write-note s v a) = a ≡ Err e
+Refused-by e (read-note s a) = a ≡ Err e
+Refused-by e (step-note s a) = a ≡ Err e
+Refused-by e (mark-note w r up a) = a ≡ Err e
+
+-- a refusal changes nothing, unless it is 14
+abbrev pub Refusals-leave : {S : Type 0} (V : Type 0) → Make S → Type 0
+Refusals-leave {S} V m =
+    (M : Machine S V) (c : Call V) (e : Refusal) → Refused-by e (act m M c .0) → (number-of e ≡ 14 → ⊥) → act m M c .1 ≡ M

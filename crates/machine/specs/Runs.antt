@@ -2,7 +2,7 @@
 --     Call V              a call: open write, open read, step (with what a read will choose), mark
 --     Note S V            a call with its answer, as an observer sees it: the choice is not seen
 --     act m M c           the note of call c, and the machine after it
---     play m M cs         the notes of the calls cs in their order, and the last machine
+--     play acts M cs      the notes of the calls cs in their order, and the last machine; acts says what a call does
 use mathlib.Core.Bool.{Bool}
 use mathlib.Core.List.{List, [], _∷_}
 use Prim.Native.Nat.{ℕ}
@@ -28,11 +28,11 @@ pub data Note (S V : Type 0) : Type 0 where
 
 module _ {S V : Type 0} where
   abbrev pub act : Make S → Machine S V → Call V → Note S V × Machine S V
-  act m M (write-call s v) = (write-note s v (open-write M s v .0), open-write M s v .1)
-  act m M (read-call s) = (read-note s (open-read M s .0), open-read M s .1)
-  act m M (step-call s choice) = (step-note s (step m M choice s .0), step m M choice s .1)
-  act m M (mark-call w r up) = (mark-note w r up (mark-cell M w r up .0), mark-cell M w r up .1)
+  act m M (write-call s v) = let a = open-write M s v in (write-note s v (a .0), a .1)
+  act m M (read-call s) = let a = open-read M s in (read-note s (a .0), a .1)
+  act m M (step-call s choice) = let a = step m M choice s in (step-note s (a .0), a .1)
+  act m M (mark-call w r up) = let a = mark-cell M w r up in (mark-note w r up (a .0), a .1)
 
-  abbrev pub play : Make S → Machine S V → List (Call V) → List (Note S V) × Machine S V
-  play m M [] = ([], M)
-  play m M (c ∷ cs) = (act m M c .0 ∷ play m (act m M c .1) cs .0, play m (act m M c .1) cs .1)
+  abbrev pub play : (Machine S V → Call V → Note S V × Machine S V) → Machine S V → List (Call V) → List (Note S V) × Machine S V
+  play acts M [] = ([], M)
+  play acts M (c ∷ cs) = let a = acts M c in let rest = play acts (a .1) cs in (a .0 ∷ rest .0, rest .1)
