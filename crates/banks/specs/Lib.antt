@@ -5,5 +5,8 @@ pub mod Layers
 pub mod Marks
 pub mod Meanings
 pub mod Notes
+pub mod Numberings
+pub mod Permutations
 pub mod Posts
+pub mod Renumberings
 pub mod Splits
