@@ -1,5 +1,6 @@
 pub mod Boards
 pub mod Bottoms
+pub mod Histories
 pub mod Layers
 pub mod Noting
 pub mod Permuting

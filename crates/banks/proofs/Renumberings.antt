@@ -8,10 +8,14 @@ use Rattle.std.specs.declared.result.Result.{Result}
 use Rattle.std.proofs.shelf.Tests.{leb-true}
 use Rattle.policy.specs.declared.refusal.Refusal.{Refusal}
 use Rattle.banks.specs.Meanings.{Meaning}
-use Rattle.banks.specs.Layers.{deepened, renumbered}
+use Rattle.std.specs.Options.{mapped}
+use Rattle.std.specs.declared.option.Option.{Option}
+use Rattle.std.specs.declared.option.Option.the-variants.{None, Some}
+use Rattle.banks.specs.Layers.{deepen, deepened, renumbered, sunk}
 use Rattle.banks.specs.Permutations.{look, Pairs}
 use Rattle.banks.specs.Renumberings.{fitting, number-below, position-above}
 use Rattle.banks.specs.declared.renumbering.Renumbering.{Renumbering}
+use Rattle.banks.proofs.Bottoms.{same-meaning}
 use Rattle.banks.proofs.Layers.{Renumbers}
 use Rattle.banks.proofs.Permuting.{renumbers}
 
@@ -33,3 +37,19 @@ through s m z y f e same law =
     ap (λ z. (deepened (z .0), renumbered (number-below s (z .1 .stations)) (position-above s (z .1 .stations)) (z .1))) e
     ∙ ap (λ n. (deepened (y .0), renumbered (number-below s n) (position-above s n) (y .1))) same
     ∙ sym law
+
+-- there and back is the bank below, but for the depth
+pub there-and-back : {R : Type 0} (m : Meaning R) (p q : ℕ → ℕ) → Renumbers (m .stations) p q → renumbered q p (renumbered p q m) ≡ sunk (sunk m)
+there-and-back {R} m p q s =
+    same-meaning (renumbered q p (renumbered p q m)) (sunk (sunk m)) refl
+    (λ w r. at (m .settled) w r) (λ w. ap (λ i. twice (m .opened i)) (s .forth w) ∙ once (m .opened w)) (λ w r. at (m .reachable) w r) (λ w r. ap (λ z. deepen (deepen z)) (at (m .place) w r))
+  where
+    at : {X : Type 0} (f : ℕ → ℕ → X) (w r : ℕ) → f (p (q w)) (p (q r)) ≡ f w r
+    at f w r = ap (λ i. f i (p (q r))) (s .forth w) ∙ ap (f w) (s .forth r)
+
+    twice : Option (ℕ × R) → Option (ℕ × R)
+    twice o = mapped (λ (o : ℕ × R). (p (o .0), o .1)) (mapped (λ (o : ℕ × R). (q (o .0), o .1)) o)
+
+    once : (o : Option (ℕ × R)) → twice o ≡ o
+    once None = refl
+    once (Some o) = ap (λ i. Some (i, o .1)) (s .forth (o .0))

@@ -1,6 +1,7 @@
 pub mod Boards
 pub mod Bottoms
 pub mod Cells
+pub mod Histories
 pub mod Layers
 pub mod Marks
 pub mod Meanings

@@ -2,6 +2,7 @@
 pub mod bank;
 pub mod board;
 mod cell;
+pub mod laws;
 mod layer;
 mod notes;
 mod permutation;

@@ -1,5 +1,6 @@
 // Making a renumbering, and its calls as a bank.
 ghost use mathlib.Core.Path.{_≡_};
+ghost use Rattle.banks.specs.Layers.{sunk};
 ghost use Rattle.banks.specs.Renumberings.{number-below, renumbering-meaning, renumbering-seen, renumbering-made};
 use crate::bank::Bank;
 use crate::bank::Mark;
@@ -21,6 +22,17 @@ impl<B> Renumbering<B> {
             Some(map) => Ok(Renumbering { below, map }),
             None => Err((Refusal::NotRenumbering, below)),
         }
+    }
+
+    // The inverse renumbering over this one. Together they mean the bank below, but for the depth.
+    pub fn undone<R: Copy>(self) -> Renumbering<Renumbering<B>>
+    where
+        B: Bank<R>,
+        ensures below { λ u. ⌜ u .below ≡ self ⌝ }
+        ensures undoes { λ u. ⌜ renumbering-meaning (renumbering-meaning (B·Bank .meaning)) u ≡ sunk (sunk (B·Bank .meaning (self .below))) ⌝ }
+    {
+        let map = self.map.inverse();
+        Renumbering { below: self, map }
     }
 
     // The bank back.
