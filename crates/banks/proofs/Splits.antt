@@ -10,7 +10,7 @@ use Rattle.std.specs.declared.result.Result.{Result}
 use Rattle.std.proofs.shelf.Tests.{or-parts, not-false, eqb-true}
 use Rattle.policy.specs.declared.refusal.Refusal.{Refusal}
 use Rattle.banks.specs.Meanings.{Meaning}
-use Rattle.banks.specs.Layers.{deepen, deepened, beside, in-first, split-meaning}
+use Rattle.banks.specs.Layers.{deepen, deepened, beside, in-first, split-meaning, sunk}
 use Rattle.banks.proofs.Placing.{cond-map}
 use Rattle.banks.proofs.Bottoms.{same-meaning}
 use Rattle.banks.proofs.Layers.{laid, Renumbers, up}
@@ -29,10 +29,6 @@ other-way true x y = refl
 other-way false x y = refl
 
 module _ {R : Type 0} where
-  -- a bank with its places one layer deeper
-  abbrev pub sunk : Meaning R → Meaning R
-  sunk m = record { stations = m .stations; settled = m .settled; opened = m .opened; reachable = m .reachable; place = λ w r. deepen (m .place w r) }
-
   mapped-own : (o : Option (ℕ × R)) → o ≡ mapped (λ o. (own (o .0), o .1)) o
   mapped-own None = refl
   mapped-own (Some o) = refl

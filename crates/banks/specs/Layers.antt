@@ -4,6 +4,7 @@
 --     beside t a b            the cells of the writers that t names lie in a, the others in b
 --     in-first k a b w        with the split point k, writer w lies in the first of two banks
 --     split-meaning k a b     two banks split at k
+--     sunk m                  m with its places one layer deeper
 --     renumbered p q m        cell (w, r) is cell (p w, p r) of m; q goes back
 use mathlib.Core.Bool.{Bool, cond, not, _||_}
 use Prim.Native.Nat.{ℕ, _+_, min}
@@ -75,4 +76,14 @@ module _ {R : Type 0} where
         opened = λ w. mapped (λ o. (q (o .0), o .1)) (m .opened (p w));
         reachable = λ w r. m .reachable (p w) (p r);
         place = λ w r. deepen (m .place (p w) (p r));
+      }
+
+  abbrev pub sunk : Meaning R → Meaning R
+  sunk m =
+      record {
+        stations = m .stations;
+        settled = m .settled;
+        opened = m .opened;
+        reachable = m .reachable;
+        place = λ w r. deepen (m .place w r);
       }

@@ -1,12 +1,12 @@
 use mathlib.Core.Path.{_≡_, refl, sym, ap, _∙_}
 use mathlib.Core.Bool.{true, false}
 use Rattle.std.proofs.shelf.Tests.{not-from-false}
-use Rattle.banks.specs.Layers.{split-meaning, in-first}
+use Rattle.banks.specs.Layers.{split-meaning, in-first, sunk}
 use Rattle.banks.specs.Meanings.{mark}
 use Rattle.banks.proofs.Stations.{mark-stations}
 use Rattle.banks.specs.Marks.{is-up}
 use Rattle.banks.proofs.Layers.{mark-laid}
-use Rattle.banks.proofs.Splits.{own, own-numbers, sunk, swapped, second-counts, split-first, split-second}
+use Rattle.banks.proofs.Splits.{own, own-numbers, swapped, second-counts, split-first, split-second}
 use Rattle.banks.proofs.split.calls.SplitBank.mark.Needs as need
 
 pub returns-then-lies-first : need.returns-then-lies-first
