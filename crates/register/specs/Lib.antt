@@ -1,3 +1,4 @@
 pub mod Owing
+pub mod Reach
 pub mod Rows
 pub mod Seen

@@ -23,10 +23,10 @@ impl<'a, L: Copy> Journal<'a, L> {
     }
 
     // Refused by 8 where there are fewer lines than that.
-    pub fn holds(&self, size: usize) -> Result<(), Refusal>
+    pub fn holds(&self, size: u64) -> Result<(), Refusal>
         ensures { λ r. ⌜ r ≡ cond (leb size (length (now (now (self .entry) .lines)))) (Ok tt) (Err JournalSize) ⌝ }
     {
-        if size <= self.lines.len() {
+        if size <= self.lines.len() as u64 {
             Ok(())
         } else {
             Err(Refusal::JournalSize)

@@ -6,6 +6,7 @@ use crate::table::Table;
 use banks::record::Record;
 
 pub mod moves;
+pub mod opens;
 
 // The most lines of a journal.
 pub const LINES: u64 = 4096;

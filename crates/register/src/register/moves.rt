@@ -13,7 +13,7 @@ use crate::register::Register;
 
 impl<S: Copy, V: Copy> Register<S, V> {
     // A station's operation goes on.
-    fn go_on(&mut self, station: u8, line: u64, progress: u64)
+    pub(crate) fn go_on(&mut self, station: u8, line: u64, progress: u64)
         requires some { ⌜ 1 ≤ station ⌝ }
         requires known { ⌜ station ≤ now self .stations ⌝ }
         requires busy { ⌜ row-of (now self .table .rows) station ≡ Busy line progress ⌝ }
@@ -25,7 +25,7 @@ impl<S: Copy, V: Copy> Register<S, V> {
     }
 
     // A station's operation ends.
-    fn end(&mut self, station: u8, line: u64, progress: u64)
+    pub(crate) fn end(&mut self, station: u8, line: u64, progress: u64)
         requires some { ⌜ 1 ≤ station ⌝ }
         requires known { ⌜ station ≤ now self .stations ⌝ }
         requires busy { ⌜ row-of (now self .table .rows) station ≡ Busy line progress ⌝ }
@@ -36,7 +36,7 @@ impl<S: Copy, V: Copy> Register<S, V> {
     }
 
     // A station opens an operation; its line is the next one.
-    fn begin(&mut self, station: u8)
+    pub(crate) fn begin(&mut self, station: u8)
         requires some { ⌜ 1 ≤ station ⌝ }
         requires known { ⌜ station ≤ now self .stations ⌝ }
         requires idle { ⌜ row-of (now self .table .rows) station ≡ Idle ⌝ }
