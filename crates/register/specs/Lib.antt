@@ -1,3 +1,4 @@
+pub mod CellWork
 pub mod Owing
 pub mod Reach
 pub mod Rows
