@@ -3,3 +3,4 @@ pub mod Owing
 pub mod Reach
 pub mod Rows
 pub mod Seen
+pub mod Stages

@@ -2,4 +2,5 @@
 pub mod cells;
 pub mod journal;
 pub mod register;
+pub mod stage;
 pub mod table;

@@ -7,6 +7,7 @@ use banks::record::Record;
 
 pub mod moves;
 pub mod opens;
+pub mod steps;
 
 // The most lines of a journal.
 pub const LINES: u64 = 4096;
