@@ -8,10 +8,11 @@ ghost use Rattle.policy.specs.declared.refusal.Refusal.{Refusal};
 ghost use Rattle.banks.specs.Meanings.{Meaning};
 ghost use Rattle.banks.specs.declared.record.Record.{Record};
 ghost use Rattle.machine.specs.Machines.{Machine, row-of};
-ghost use Rattle.machine.specs.Steps.{step-stage, stamp-write, spread-to};
+ghost use Rattle.machine.specs.Steps.{step as steps, step-stage, stamp-write, spread-to};
 ghost use Rattle.machine.specs.declared.row.Row.the-variants.{Busy};
 ghost use Rattle.machine.specs.declared.row.Stepped.{Stepped};
 ghost use Rattle.register.specs.Seen.{seen};
+ghost use Rattle.register.specs.Stages.{choice-at};
 use crate::cells::collect;
 use crate::cells::spread;
 use crate::journal::Journal;
@@ -28,6 +29,31 @@ use policy::refusal::Refusal;
 use stamps::Stamp;
 
 impl<S: Stamp, V: Copy> Register<S, V> {
+    // The next step of a station's operation: one read, start or finish of a cell. Refused by 8, 4, 13, 15, 14.
+    pub fn step<B: Bank<Record<S, V>>>(
+        &mut self,
+        bank: &mut B,
+        journal: &mut Journal<'_, Line<S, V>>,
+        station: u8,
+    ) -> Result<Stepped<S, V>, Refusal>
+        ensures call { λ a. ⌜ _≡_ {A = Result (Stepped S V) Refusal × Machine S V} (a, seen (now (self .exit)) (B·Bank .meaning (now (bank .exit))) (now (now (journal .exit) .lines))) (steps (S·Stamp .make) (seen (now (self .entry)) (B·Bank .meaning (now (bank .entry))) (now (now (journal .entry) .lines))) (choice-at (B·Bank .chooses (now (bank .entry))) station (row-of (now (self .entry) .table .rows) station)) station) ⌝ }
+        ensures lender { λ _. ⌜ name (now (journal .exit) .lines) ≡ name (now (journal .entry) .lines) ⌝ }
+    {
+        journal.holds(self.size)?;
+        self.known(station)?;
+        let Row::Busy {
+            line: number,
+            progress,
+        } = self.table.row(station)
+        else {
+            return Err(Refusal::Idle);
+        };
+        let Some(line) = journal.line(number) else {
+            return Err(Refusal::JournalSize);
+        };
+        self.act(bank, journal, station, number, progress, line)
+    }
+
     // The next step of a station's operation, whose line and progress are given.
     fn act<B: Bank<Record<S, V>>>(
         &mut self,
