@@ -18,5 +18,5 @@ mod Playing
 mod Seen
 mod Lawful
 mod Leaving
-mod Whole
+pub mod Whole
 mod Witnesses

@@ -1,3 +1,5 @@
 mod Accepts
+mod Founding
 mod Owes
+mod Reaching
 mod Ties
