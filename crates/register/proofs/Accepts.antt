@@ -6,6 +6,8 @@ use Prim.Native.Nat.{ℕ, _+_, _-_, _<_}
 use native.Mathlib.Omega.{arith}
 use lib.Dec.{leb, ltb}
 use lib.ListN.{length, set}
+use Rattle.std.specs.shelf.Maps.{nth}
+use Rattle.std.specs.declared.option.Option.the-variants.{Some}
 use Rattle.std.specs.declared.result.Result.{Result}
 use Rattle.std.specs.declared.result.Result.the-variants.{Ok, Err}
 use Rattle.std.proofs.shelf.Tests.{cond-true, lt-ltb}
@@ -13,12 +15,15 @@ use Rattle.policy.specs.declared.refusal.Refusal.{Refusal}
 use Rattle.policy.specs.declared.refusal.Refusal.the-variants.{JournalSize, UnknownStation}
 use Rattle.banks.specs.Meanings.{Meaning, inside}
 use Rattle.banks.specs.declared.record.Record.{Record}
+use Rattle.stamps.specs.Makes.{Make}
 use Rattle.machine.specs.Machines.{Machine, row-of, next-machine, fresh, open-row, open-line}
+use Rattle.machine.specs.Steps.{step, step-row, step-line, step-stage}
 use Rattle.machine.specs.declared.line.Kind.{Kind}
 use Rattle.machine.specs.declared.line.Line.{Line}
 use Rattle.machine.specs.declared.row.Row.{Row}
 use Rattle.machine.specs.declared.row.Row.the-variants.{Idle, Busy}
 use Rattle.register.specs.Seen.{seen}
+use Rattle.register.specs.Stages.{choice-at}
 use Rattle.register.specs.declared.register.Register.{Register}
 
 -- a test that was answered by Ok was passed
@@ -44,3 +49,11 @@ module _ {S V : Type 0} where
       ap (λ (N : Machine S V). (Ok (r .used + 1), N))
       (begun bank later ∙ ap (λ ls. next-machine M bank ls (r .used + 1) s (Busy (r .used + 1) 0)) lines-are)
       ∙ sym (opened M s kind v (passed _ _ _ _ long) (passed _ _ _ _ known) (sym idle) room)
+
+  -- a step that passes every test
+  pub stepping : (m : Make S) (M : Machine S V) (f : ℕ → ℕ → Bool) (s i c : ℕ) (l : Line S V) → _≡_ {A = Result (Unit {0}) Refusal} (Ok tt) (cond (leb (M .size) (length (M .lines))) (Ok tt) (Err JournalSize)) → _≡_ {A = Result (Unit {0}) Refusal} (Ok tt) (cond (inside (M .stations) s) (Ok tt) (Err UnknownStation)) → Busy i c ≡ row-of (M .rows) s → Some l ≡ nth (M .lines) (i - 1) → step m M (choice-at f s (row-of (M .rows) s)) s ≡ step-stage m M (f (c + 1) s) s i c l
+  stepping m M f s i c l long known busy line =
+      cond-true (leb (M .size) (length (M .lines))) _ _ (passed _ _ _ _ long)
+      ∙ cond-true (inside (M .stations) s) _ _ (passed _ _ _ _ known)
+      ∙ ap (λ row. step-row m M (choice-at f s row) s row) (sym busy)
+      ∙ ap (step-line m M (f (c + 1) s) s i c) (sym line)

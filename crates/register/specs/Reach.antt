@@ -1,5 +1,6 @@
 -- What a run leads to. Assumes nothing.
 --     Reached m M         some list of calls leads from a new register to M
+--     Leads m M N         if M is reached, so is N
 use mathlib.Core.Path.{_≡_}
 use mathlib.Core.List.{List}
 use Prim.Native.Nat.{ℕ}
@@ -22,3 +23,6 @@ pub record Reached {S V : Type 0} (m : Make S) (M : Machine S V) : Type 0 where
   pub made : make m bank stations count value lines size ≡ Ok first
   pub calls : List (Call V)
   pub leads : play (act m) first calls .1 ≡ M
+
+abbrev pub Leads : {S V : Type 0} → Make S → Machine S V → Machine S V → Type 0
+Leads m M N = Reached m M → Reached m N

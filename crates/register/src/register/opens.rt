@@ -10,6 +10,8 @@ ghost use Rattle.policy.specs.declared.refusal.Refusal.the-variants.{UnknownSta
 ghost use Rattle.banks.specs.Meanings.{Meaning, inside};
 ghost use Rattle.banks.specs.declared.record.Record.{Record};
 ghost use Rattle.machine.specs.Machines.{Machine, open-line, open-write, open-read};
+ghost use Rattle.stamps.specs.Makes.{Make};
+ghost use Rattle.register.specs.Reach.{Leads};
 ghost use Rattle.register.specs.Seen.{seen};
 use crate::journal::Journal;
 use crate::register::Register;
@@ -28,6 +30,7 @@ impl<S: Copy, V: Copy> Register<S, V> {
         value: V,
     ) -> Result<u64, Refusal>
         ensures call { λ a. ⌜ ((bank : Meaning (Record S V)) → _≡_ {A = Result ℕ Refusal × Machine S V} (a, seen (now (self .exit)) bank (now (now (journal .exit) .lines))) (open-write (seen (now (self .entry)) bank (now (now (journal .entry) .lines))) station value)) ⌝ }
+        ensures reached { λ _. ⌜ ((m : Make S) (bank : Meaning (Record S V)) → Leads m (seen (now (self .entry)) bank (now (now (journal .entry) .lines))) (seen (now (self .exit)) bank (now (now (journal .exit) .lines)))) ⌝ }
         ensures lender { λ _. ⌜ name (now (journal .exit) .lines) ≡ name (now (journal .entry) .lines) ⌝ }
     {
         self.open(journal, station, Kind::Write, value)
@@ -40,6 +43,7 @@ impl<S: Copy, V: Copy> Register<S, V> {
         station: u8,
     ) -> Result<u64, Refusal>
         ensures call { λ a. ⌜ ((bank : Meaning (Record S V)) → _≡_ {A = Result ℕ Refusal × Machine S V} (a, seen (now (self .exit)) bank (now (now (journal .exit) .lines))) (open-read (seen (now (self .entry)) bank (now (now (journal .entry) .lines))) station)) ⌝ }
+        ensures reached { λ _. ⌜ ((m : Make S) (bank : Meaning (Record S V)) → Leads m (seen (now (self .entry)) bank (now (now (journal .entry) .lines))) (seen (now (self .exit)) bank (now (now (journal .exit) .lines)))) ⌝ }
         ensures lender { λ _. ⌜ name (now (journal .exit) .lines) ≡ name (now (journal .entry) .lines) ⌝ }
     {
         let value = self.origin.value;
