@@ -1,5 +1,6 @@
 -- The invariant of a run: what holds of the operations, the cells and the rows at every point. Assumes nothing.
 --     Entry S V           an operation with the stamp and the value of its line; entry 0 is the starting record
+--     Point S V           a point of a run: station count, moment, cells, rows, entries
 --     Held n c w x          row w of the cells holds the record x, settled or open
 --     Backed              a write stamped before t has this stamp and value
 --     Sound               what holds of one entry; Phase: how far it has come
@@ -7,8 +8,7 @@
 --     Row-fits            what holds of a station's row and its cells
 --     Inv                 the invariant;  Told: how machine and book tell the entries
 use mathlib.Core.Path.{_≡_}
-use mathlib.Core.Bool.{Bool, true, false, cond}
-use mathlib.Core.List.{List}
+use mathlib.Core.Bool.{true, false, cond}
 use Prim.Native.Nat.{ℕ, _+_, _-_, _*_, _/_, _%_, _≤_, _<_}
 use lib.Dec.{eqb, ltb}
 use lib.ListN.{length}
@@ -23,7 +23,6 @@ use Rattle.machine.specs.Machines.{Machine, row-of}
 use Rattle.machine.specs.Steps.{spread-to}
 use Rattle.machine.specs.Histories.{End, as-done, as-spent, Operation, Book}
 use Rattle.machine.specs.Rules.{account}
-use Rattle.machine.specs.declared.line.Kind.{Kind}
 use Rattle.machine.specs.declared.line.Kind.the-variants.{Write, Read}
 use Rattle.machine.specs.declared.row.Row.{Row}
 use Rattle.machine.specs.declared.row.Row.the-variants.{Idle, Busy}
@@ -41,6 +40,16 @@ pub record Cells (R : Type 0) : Type 0 where
 pub data Held {R : Type 0} (n : ℕ) (c : Cells R) (w : ℕ) (x : R) : Type 0 where
   as-settled : (r : ℕ) → inside n r ≡ true → c .settled w r ≡ Some x → Held n c w x
   as-open : (r : ℕ) → c .opened w ≡ Some (r, x) → Held n c w x
+
+-- a point of a run, as the proof sees it: the entries 0 to count are in use
+pub record Point (S V : Type 0) : Type 0 where
+  pub origin : Record S V
+  pub stations : ℕ
+  pub count : ℕ
+  pub moment : ℕ
+  pub cells : Cells (Record S V)
+  pub row : ℕ → Row
+  pub ent : ℕ → Entry S V
 
 -- s is at most t
 abbrev pub AtMost : {S : Type 0} → Make S → S → S → Type 0
@@ -72,6 +81,9 @@ module _ {S V : Type 0} where
         value = x .value;
       }
 
+  abbrev pub point-of : Machine S V → (ℕ → Entry S V) → Point S V
+  point-of M ent = record { origin = M .origin; stations = M .stations; count = M .used; moment = M .moment; cells = cells-of (M .bank); row = row-of (M .rows); ent = ent }
+
   -- e is done since the moment u
   abbrev pub Done-at : Entry S V → ℕ → Type 0
   Done-at e u = e .op .ended ≡ Some (u, as-done (e .stamp) (e .value))
@@ -93,15 +105,15 @@ module _ {S V : Type 0} where
     pub owned : (t : ℕ) → e .op .kind ≡ Write → e .op .stamped ≡ Some t → m .owner (e .stamp) ≡ e .op .station
 
   -- a write stamped before t has the stamp s and the value v
-  pub record Backed (ent : ℕ → Entry S V) (count t : ℕ) (s : S) (v : V) : Type 0 where
+  pub record Backed (σ : Point S V) (t : ℕ) (s : S) (v : V) : Type 0 where
     pub by : ℕ
-    pub low : by ≤ count
-    pub write : ent by .op .kind ≡ Write
+    pub low : by ≤ σ .count
+    pub write : σ .ent by .op .kind ≡ Write
     pub at : ℕ
-    pub stamped : ent by .op .stamped ≡ Some at
+    pub stamped : σ .ent by .op .stamped ≡ Some at
     pub before : at < t
-    pub stamp : ent by .stamp ≡ s
-    pub value : ent by .value ≡ v
+    pub stamp : σ .ent by .stamp ≡ s
+    pub value : σ .ent by .value ≡ v
 
   pub record Ended (moment : ℕ) (e : Entry S V) : Type 0 where
     pub at : ℕ
@@ -127,38 +139,42 @@ module _ {S V : Type 0} where
       cond (ltb (e .op .steps) n) None
       (cond (eqb ((e .op .steps - n) % 2) 0) None (Some (spread-to s ((e .op .steps - n) / 2), rec e)))
 
-  -- the row holds line i, which is entry e
-  pub record Busy-fits (n : ℕ) (c : Cells (Record S V)) (count s i steps : ℕ) (e : Entry S V) : Type 0 where
+  -- the row of s holds line i, which is entry e
+  pub record Busy-fits (σ : Point S V) (s i steps : ℕ) (e : Entry S V) : Type 0 where
     pub low : 1 ≤ i
-    pub high : i ≤ count
+    pub high : i ≤ σ .count
     pub station : e .op .station ≡ s
     pub going : e .op .ended ≡ None
     pub taken : e .op .steps ≡ steps
     -- between a start and its finish the open record is the line's
-    pub middle : c .opened s ≡ open-record n s e
+    pub middle : σ .cells .opened s ≡ open-record (σ .stations) s e
     -- the cells passed hold the line's record
-    pub spread : (j : ℕ) → n + 2 * j + 2 ≤ e .op .steps → c .settled s (spread-to s j) ≡ Some (rec e)
+    pub spread : (j : ℕ) → σ .stations + 2 * j + 2 ≤ e .op .steps → σ .cells .settled s (spread-to s j) ≡ Some (rec e)
 
-  abbrev pub Row-fits : ℕ → ℕ → Cells (Record S V) → (ℕ → Entry S V) → ℕ → ℕ → Row → Type 0
-  Row-fits n moment c ent count s Idle = (c .opened s ≡ None) × ((k : ℕ) → k ≤ count → ent k .op .station ≡ s → Ended (moment + 1) (ent k))
-  Row-fits n moment c ent count s (Busy i steps) = Busy-fits n c count s i steps (ent i)
+  abbrev pub Row-fits : Point S V → ℕ → Row → Type 0
+  Row-fits σ s Idle = (σ .cells .opened s ≡ None) × ((k : ℕ) → k ≤ σ .count → σ .ent k .op .station ≡ s → Ended (σ .moment + 1) (σ .ent k))
+  Row-fits σ s (Busy i steps) = Busy-fits σ s i steps (σ .ent i)
 
-  pub record Inv (m : Make S) (origin : Record S V) (n count moment : ℕ) (c : Cells (Record S V)) (row : ℕ → Row) (ent : ℕ → Entry S V) : Type 0 where
-    pub zeroth : ent 0 ≡ start-entry n origin
-    pub sound : (k : ℕ) → k ≤ count → Sound m n moment k (ent k)
-    pub order : (a b : ℕ) → a ≤ count → b ≤ count → Order a (ent a) b (ent b)
-    pub later : (a b : ℕ) → a ≤ count → b ≤ count → Later m a (ent a) b (ent b)
+  pub record Inv (m : Make S) (σ : Point S V) : Type 0 where
+    pub zeroth : σ .ent 0 ≡ start-entry (σ .stations) (σ .origin)
+    pub sound : (k : ℕ) → k ≤ σ .count → Sound m (σ .stations) (σ .moment) k (σ .ent k)
+    pub order : (a b : ℕ) → a ≤ σ .count → b ≤ σ .count → Order a (σ .ent a) b (σ .ent b)
+    pub later : (a b : ℕ) → a ≤ σ .count → b ≤ σ .count → Later m a (σ .ent a) b (σ .ent b)
     -- a read's stamp and value are those of a write stamped before it
-    pub reads : (k : ℕ) → k ≤ count → ent k .op .kind ≡ Read → Backed ent count (valueOr (ent k .op .stamped) (moment + 1)) (ent k .stamp) (ent k .value)
+    pub reads : (k : ℕ) → k ≤ σ .count → σ .ent k .op .kind ≡ Read → Backed σ (valueOr (σ .ent k .op .stamped) (σ .moment + 1)) (σ .ent k .stamp) (σ .ent k .value)
     -- and so are those of every record that a row holds
-    pub kept : (w : ℕ) (x : Record S V) → Held n c w x → Backed ent count (moment + 1) (x .tag) (x .value)
+    pub kept : (w : ℕ) (x : Record S V) → Held (σ .stations) (σ .cells) w x → Backed σ (σ .moment + 1) (x .tag) (x .value)
     -- a done operation's stamp is at most that of every record its row holds
-    pub above : (a u : ℕ) → 1 ≤ a → a ≤ count → Done-at (ent a) u → (x : Record S V) → Held n c (ent a .op .station) x → AtMost m (ent a .stamp) (x .tag)
-    pub rows : (s : ℕ) → inside n s ≡ true → Row-fits n moment c ent count s (row s)
-    pub full : (w r : ℕ) → known n w r ≡ true → (x : Record S V) × (c .settled w r ≡ Some x)
+    pub above : (a u : ℕ) → 1 ≤ a → a ≤ σ .count → Done-at (σ .ent a) u → (x : Record S V) → Held (σ .stations) (σ .cells) (σ .ent a .op .station) x → AtMost m (σ .ent a .stamp) (x .tag)
+    pub rows : (s : ℕ) → inside (σ .stations) s ≡ true → Row-fits σ s (σ .row s)
+    pub full : (w r : ℕ) → known (σ .stations) w r ≡ true → (x : Record S V) × (σ .cells .settled w r ≡ Some x)
 
-  -- how the machine and the book tell the entries
-  pub record Told (M : Machine S V) (b : Book S V) (ent : ℕ → Entry S V) : Type 0 where
+  -- how the machine and the book tell the entries, in a run from old
+  pub record Told (old M : Machine S V) (b : Book S V) (ent : ℕ → Entry S V) : Type 0 where
+    pub same-stations : M .stations ≡ old .stations
+    pub same-origin : M .origin ≡ old .origin
+    -- the lines not in use
+    pub rest : (k : ℕ) → M .used ≤ k → nth (M .lines) k ≡ nth (old .lines) k
     pub some : 1 ≤ M .stations
     pub stations : M .stations ≤ 16
     pub bank : M .bank .stations ≡ M .stations
@@ -171,7 +187,7 @@ module _ {S V : Type 0} where
     pub lines : (k : ℕ) → 1 ≤ k → k ≤ M .used → nth (M .lines) (k - 1) ≡ Some (account (ent k .op) (ent k .stamp) (ent k .value))
     pub latest : (s i c : ℕ) → inside (M .stations) s ≡ true → row-of (M .rows) s ≡ Busy i c → b .latest s ≡ i
 
-  pub record Kept (m : Make S) (M : Machine S V) (b : Book S V) : Type 0 where
+  pub record Kept (m : Make S) (old M : Machine S V) (b : Book S V) : Type 0 where
     pub ent : ℕ → Entry S V
-    pub inv : Inv m (M .origin) (M .stations) (M .used) (M .moment) (cells-of (M .bank)) (row-of (M .rows)) ent
-    pub told : Told M b ent
+    pub inv : Inv m (point-of M ent)
+    pub told : Told old M b ent

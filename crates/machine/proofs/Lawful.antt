@@ -1,9 +1,9 @@
 -- From the invariant to the law. Assumes nothing.
 use mathlib.Core.Path.{_≡_, refl, sym, _∙_, subst, ap}
-use mathlib.Core.Bool.{Bool, true, false, cond}
+use mathlib.Core.Bool.{true, false}
 use mathlib.Core.List.{List}
-use mathlib.Core.Logic.{⊎-elim, _≢_, _↔_}
-use Prim.Native.Nat.{ℕ, _+_, _-_, _*_, _≤_, _<_}
+use mathlib.Core.Logic.{⊎-elim, _↔_}
+use Prim.Native.Nat.{ℕ, _+_, _*_, _≤_, _<_}
 use native.Mathlib.Omega.{arith}
 use Rattle.std.specs.Options.{valueOr}
 use Rattle.std.specs.shelf.Lists.{All}
@@ -13,14 +13,13 @@ use Rattle.std.specs.declared.option.Option.the-variants.{None, Some}
 use Rattle.stamps.specs.Makes.{Make, Laws}
 use Rattle.machine.specs.Machines.{Machine}
 use Rattle.machine.specs.Runs.{Note}
-use Rattle.machine.specs.Histories.{End, as-done, as-spent, Operation, Book}
-use Rattle.machine.specs.Rules.{History, Stamped, end-moment, stamped, Rests-by, Rests, Accounted, Clean, Law}
+use Rattle.machine.specs.Histories.{End, as-done, as-spent, Book}
+use Rattle.machine.specs.Rules.{History, Stamped, stamped, Rests-by, Rests, Accounted, Clean, Law}
 use Rattle.machine.specs.declared.line.Kind.{Kind}
 use Rattle.machine.specs.declared.line.Kind.the-variants.{Write, Read}
+use Rattle.machine.proofs.Basics.{none-some, some-in, some-pair}
 use Rattle.machine.proofs.Entries.{Entry, Done-at, Phase, collecting, spreading, finished, refused, Sound, Above, Kept}
 use Rattle.machine.proofs.Orders.{smaller-not-same}
-use Rattle.machine.proofs.Moved.{none-some, some-pair}
-use Rattle.machine.proofs.Collecting.{kinds}
 use Rattle.machine.proofs.Seen as at
 
 done-not-spent : {S V : Type 0} (s : S) (v : V) → as-done s v ≡ as-spent → ⊥
@@ -52,7 +51,7 @@ module _ {S V : Type 0} {n moment : ℕ} {e : Entry S V} where
   spent-at t q (finished u w a b c d f) = absurd (done-not-spent _ _ (some-pair _ _ _ _ (sym a ∙ q) .1))
   spent-at t q (refused u a b c d f) = (f, d, b)
 
-module _ {S V : Type 0} (m : Make S) (laws : Laws m) (M : Machine S V) (b : Book S V) (notes : List (Note S V)) (kept : Kept m M b) where
+module _ {S V : Type 0} (m : Make S) (laws : Laws m) (M : Machine S V) (b : Book S V) (notes : List (Note S V)) {old : Machine S V} (kept : Kept m old M b) where
   abbrev h : History S V
   h = at.told-history m M b notes kept
 
@@ -86,9 +85,6 @@ module _ {S V : Type 0} (m : Make S) (laws : Laws m) (M : Machine S V) (b : Book
 
   unique : (a c : ℕ) (s : S) → Writes a s → Writes c s → a ≡ c
   unique a c s x y = ⊎-elim (λ e. e) (⊎-elim (λ lt. absurd (apart a c s lt x y)) (λ gt. absurd (apart c a s gt y x))) (cases-order a c)
-
-  some-in : (x y : Stamped S V) → Some x ≡ Some y → x ≡ y
-  some-in x y q = cc
 
   -- what rests on w has w's stamp
   rests-on : (a w : ℕ) (x : Stamped S V) → stamped h a ≡ Some x → Rests h a w → Writes w (x .stamp)
@@ -167,4 +163,5 @@ module _ {S V : Type 0} (m : Make S) (laws : Laws m) (M : Machine S V) (b : Book
         in-use = kept .told .counts;
         accounts = λ k lo hi. let c = kept .told .counts in let le : k ≤ M .used = omega arith in subst (Accounted (M .stations) (M .lines) k) (sym (kept .told .operations k lo le)) (account k lo le);
         clean = clean;
+        rest = kept .told .rest;
       }

@@ -1,7 +1,6 @@
--- What every call leaves: the station count and the starting record, and all else if it is refused with another refusal than
--- 14. Assumes nothing.
-use mathlib.Core.Path.{_≡_, refl, sym, _∙_, subst, ap}
-use mathlib.Core.Bool.{Bool, true, false, cond}
+-- A call that is refused with another refusal than 14 changes nothing. Assumes nothing.
+use mathlib.Core.Path.{_≡_, refl, sym, ap}
+use mathlib.Core.Bool.{Bool}
 use Prim.Native.Nat.{ℕ, _+_, _-_, _*_, _/_, _%_}
 use native.Mathlib.Omega.{arith}
 use lib.Dec.{eqb, leb, ltb}
@@ -20,8 +19,8 @@ use Rattle.banks.specs.Meanings.{Meaning, read, start-at, start, finish-at, fin
 use Rattle.stamps.specs.Makes.{Make}
 use Rattle.machine.specs.Machines.{Machine, row-of, record-of, open-row, open-line, mark-cell, with-bank}
 use Rattle.machine.specs.Steps.{spread-to, stamp-write, stamp-line, collect, collected, spread, settle, step-line, step-row, step}
-use Rattle.machine.specs.Runs.{Call, write-call, read-call, step-call, mark-call, act}
-use Rattle.machine.specs.Rules.{Refused-by, Refusals-leave}
+use Rattle.machine.specs.Runs.{write-call, read-call, step-call, mark-call}
+use Rattle.machine.specs.Rules.{Refusals-leave}
 use Rattle.machine.specs.declared.line.Kind.{Kind}
 use Rattle.machine.specs.declared.line.Kind.the-variants.{Write, Read}
 use Rattle.machine.specs.declared.line.Line.{Line}
@@ -57,43 +56,41 @@ module _ {R : Type 0} (b : Meaning R) where
   mark-leaves w r up = cond-both (known (b .stations) w r) _ _ Leaves (λ _. record { leaves = λ e q. absurd (no-error tt e q) }) (λ _. refused-so _)
 
 module _ {S V : Type 0} (m : Make S) (M : Machine S V) where
-  pub record Fixed {X : Type 0} (p : Result X Refusal × Machine S V) : Type 0 where
-    pub stations : p .1 .stations ≡ M .stations
-    pub origin : p .1 .origin ≡ M .origin
-    pub unmoved : (e : Refusal) → p .0 ≡ Err e → (number-of e ≡ 14 → ⊥) → p .1 ≡ M
+  record Fixed {X : Type 0} (p : Result X Refusal × Machine S V) : Type 0 where
+    unmoved : (e : Refusal) → p .0 ≡ Err e → (number-of e ≡ 14 → ⊥) → p .1 ≡ M
 
-  accepted : {X : Type 0} (x : X) (N : Machine S V) → N .stations ≡ M .stations → N .origin ≡ M .origin → Fixed (Ok x, N)
-  accepted x N p q = record { stations = p; origin = q; unmoved = λ e r. absurd (no-error x e r) }
+  accepted : {X : Type 0} (x : X) (N : Machine S V) → Fixed (Ok x, N)
+  accepted x N = record { unmoved = λ e r. absurd (no-error x e r) }
 
   refused : {X : Type 0} (e : Refusal) (bank : Meaning (Record S V)) → bank ≡ M .bank → Fixed {X = X} (Err e, with-bank M bank)
-  refused e bank q = record { stations = refl; origin = refl; unmoved = λ _ _ _. ap (with-bank M) q }
+  refused e bank q = record { unmoved = λ _ _ _. ap (with-bank M) q }
 
   open-fixed : (s : ℕ) (kind : Kind) (v : V) → Fixed (open-line M s kind v)
   open-fixed s kind v = cond-both (leb (M .size) (length (M .lines))) _ _ Fixed (λ _. cond-both (inside (M .stations) s) _ _ Fixed (λ _. by-row (row-of (M .rows) s)) (λ _. refused _ _ refl)) (λ _. refused _ _ refl)
     where
       by-row : (r : Row) → Fixed (open-row M s kind v r)
-      by-row Idle = cond-both (ltb (M .used) (M .size)) _ _ Fixed (λ _. accepted _ _ refl refl) (λ _. refused _ _ refl)
+      by-row Idle = cond-both (ltb (M .used) (M .size)) _ _ Fixed (λ _. accepted _ _) (λ _. refused _ _ refl)
       by-row (Busy i c) = refused _ _ refl
 
   stamp-fixed : (s i : ℕ) (l : Line S V) (c : ℕ) (o : Option S) → Fixed (stamp-write M s i l c o)
-  stamp-fixed s i l c None = record { stations = refl; origin = refl; unmoved = λ e q not-14. let is : refusals.Spent ≡ e = cc in absurd (not-14 (sym (ap number-of is))) }
-  stamp-fixed s i l c (Some t) = accepted _ _ refl refl
+  stamp-fixed s i l c None = record { unmoved = λ e q not-14. let is : refusals.Spent ≡ e = cc in absurd (not-14 (sym (ap number-of is))) }
+  stamp-fixed s i l c (Some t) = accepted _ _
 
   kind-fixed : (s i : ℕ) (l : Line S V) (c : ℕ) (k : Kind) → Fixed (stamp-line m M s i l c k)
   kind-fixed s i l c Write = stamp-fixed s i l c (m .next (l .stamp) s)
-  kind-fixed s i l c Read = accepted _ _ refl refl
+  kind-fixed s i l c Read = accepted _ _
 
   collect-fixed : (s i c : ℕ) (l : Line S V) (a : Result (Record S V) Refusal) → Fixed (collect m M s i c l a (M .bank))
   collect-fixed s i c l (Err e) = refused e _ refl
-  collect-fixed s i c l (Ok x) = cond-both (eqb (c + 1) (M .stations)) _ _ Fixed (λ _. kind-fixed s i (collected m l x) (c + 1) (l .kind)) (λ _. accepted _ _ refl refl)
+  collect-fixed s i c l (Ok x) = cond-both (eqb (c + 1) (M .stations)) _ _ Fixed (λ _. kind-fixed s i (collected m l x) (c + 1) (l .kind)) (λ _. accepted _ _)
 
   spread-fixed : (s i c : ℕ) (p : Result (Unit {0}) Refusal × Meaning (Record S V)) → Leaves (M .bank) p → (a : Result (Unit {0}) Refusal) → p .0 ≡ a → Fixed (spread M s i c a (p .1))
   spread-fixed s i c p left (Err e) q = refused e _ (left .leaves e q)
-  spread-fixed s i c p left (Ok u) q = accepted _ _ refl refl
+  spread-fixed s i c p left (Ok u) q = accepted _ _
 
   settle-fixed : (s i c : ℕ) (l : Line S V) (p : Result (Unit {0}) Refusal × Meaning (Record S V)) → Leaves (M .bank) p → (a : Result (Unit {0}) Refusal) → p .0 ≡ a → Fixed (settle M s i c l a (p .1))
   settle-fixed s i c l p left (Err e) q = refused e _ (left .leaves e q)
-  settle-fixed s i c l p left (Ok u) q = cond-both (eqb (c + 1) (3 * M .stations)) _ _ Fixed (λ _. accepted _ _ refl refl) (λ _. accepted _ _ refl refl)
+  settle-fixed s i c l p left (Ok u) q = cond-both (eqb (c + 1) (3 * M .stations)) _ _ Fixed (λ _. accepted _ _) (λ _. accepted _ _)
 
   line-fixed : (choice : Bool) (s i c : ℕ) (o : Option (Line S V)) → Fixed (step-line m M choice s i c o)
   line-fixed choice s i c None = refused _ _ refl
@@ -110,13 +107,7 @@ module _ {S V : Type 0} (m : Make S) (M : Machine S V) where
       by-row (Busy i c) = line-fixed choice s i c (nth (M .lines) (i - 1))
 
   mark-fixed : (w r : ℕ) (up : Bool) → Fixed (mark-cell M w r up)
-  mark-fixed w r up = record { stations = refl; origin = refl; unmoved = λ e q _. ap (with-bank M) (mark-leaves (M .bank) w r up .leaves e q) }
-
-  pub act-fixed : (c : Call V) → (act m M c .1 .stations ≡ M .stations) × (act m M c .1 .origin ≡ M .origin)
-  act-fixed (write-call s v) = let f = open-fixed s Write v in (f .stations, f .origin)
-  act-fixed (read-call s) = let f = open-fixed s Read (M .origin .value) in (f .stations, f .origin)
-  act-fixed (step-call s choice) = let f = step-fixed choice s in (f .stations, f .origin)
-  act-fixed (mark-call w r up) = (refl, refl)
+  mark-fixed w r up = record { unmoved = λ e q _. ap (with-bank M) (mark-leaves (M .bank) w r up .leaves e q) }
 
 pub refusals-leave : {S V : Type 0} (m : Make S) → Refusals-leave V m
 refusals-leave m M (write-call s v) e q not-14 = open-fixed m M s Write v .unmoved e q not-14

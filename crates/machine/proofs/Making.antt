@@ -1,14 +1,13 @@
 -- A new register: what is kept holds before the first call. Assumes nothing.
-use mathlib.Core.Path.{_≡_, refl, sym, _∙_, subst, ap}
-use mathlib.Core.Bool.{Bool, true, false, cond, _&&_}
+use mathlib.Core.Path.{_≡_, refl, sym, subst}
+use mathlib.Core.Bool.{true, cond, _&&_}
 use mathlib.Core.List.{List}
-use Prim.Native.Nat.{ℕ, zero, suc, _+_, _-_, _*_, _≤_, _<_}
+use Prim.Native.Nat.{ℕ, zero, suc, _-_, _≤_}
 use native.Mathlib.Nat.{le-refl}
 use native.Mathlib.Omega.{arith}
 use lib.Dec.{eqb, leb}
 use lib.ListN.{length, getD, replicate}
 use Rattle.std.proofs.shelf.Tests.{cond-both, cond-true, and-parts, leb-true, eqb-true}
-use Rattle.std.specs.declared.option.Option.{Option}
 use Rattle.std.specs.declared.option.Option.the-variants.{None, Some}
 use Rattle.std.specs.declared.result.Result.{Result}
 use Rattle.std.specs.declared.result.Result.the-variants.{Ok, Err}
@@ -17,14 +16,11 @@ use Rattle.banks.specs.declared.record.Record.{Record}
 use Rattle.banks.specs.Meanings.{Meaning, inside, known, filled}
 use Rattle.stamps.specs.Makes.{Make, Laws}
 use Rattle.machine.specs.Machines.{Machine, row-of, made, make}
-use Rattle.machine.specs.Histories.{Book, empty-book}
-use Rattle.machine.specs.declared.line.Kind.the-variants.{Write, Read}
+use Rattle.machine.specs.Histories.{empty-book}
 use Rattle.machine.specs.declared.line.Line.{Line}
-use Rattle.machine.specs.declared.row.Row.{Row}
-use Rattle.machine.specs.declared.row.Row.the-variants.{Idle, Busy}
-use Rattle.machine.proofs.Entries.{Entry, Cells, Held, as-settled, as-open, cells-of, start-entry, finished, Sound, Backed, Row-fits, Inv, Told, Kept}
-use Rattle.machine.proofs.Moved.{none-some}
-use Rattle.machine.proofs.Telling.{inside-parts}
+use Rattle.machine.specs.declared.row.Row.the-variants.{Idle}
+use Rattle.machine.proofs.Basics.{none-some, inside-parts}
+use Rattle.machine.proofs.Entries.{Entry, Point, Held, as-settled, as-open, point-of, start-entry, finished, Backed, Row-fits, Kept}
 
 same-everywhere : {X : Type 0} (n i : ℕ) (x : X) → getD (replicate n x) i x ≡ x
 same-everywhere zero i x = refl
@@ -38,12 +34,12 @@ module _ {S V : Type 0} (m : Make S) (laws : Laws m) (bank : Meaning (Record S V
   abbrev new : Machine S V
   new = record { stations = n; bank = filled bank x; origin = x; lines = lines; used = 0; size = size; moment = 0; rows = replicate 16 Idle }
 
-  abbrev cells : Cells (Record S V)
-  cells = cells-of (filled bank x)
+  abbrev σ : Point S V
+  σ = point-of new ent
 
-  held : (w : ℕ) (y : Record S V) → Held n cells w y → Backed ent 0 1 (y .tag) (y .value)
+  held : (w : ℕ) (y : Record S V) → Held n (σ .cells) w y → Backed σ 1 (y .tag) (y .value)
   held w y (as-settled r k p) =
-      subst (λ (z : Record S V). Backed ent 0 1 (z .tag) (z .value)) (is p) (record { by = 0; low = le-refl 0; write = refl; at = 0; stamped = refl; before = omega arith; stamp = refl; value = refl })
+      subst (λ (z : Record S V). Backed σ 1 (z .tag) (z .value)) (is p) (record { by = 0; low = le-refl 0; write = refl; at = 0; stamped = refl; before = omega arith; stamp = refl; value = refl })
     where
       is : cond (known (bank .stations) w r) (Some x) None ≡ Some y → x ≡ y
       is = cond-both (known (bank .stations) w r) (Some x) None (λ o. o ≡ Some y → x ≡ y) (λ _ e. cc) (λ _ e. absurd (none-some _ _ refl e))
@@ -52,7 +48,7 @@ module _ {S V : Type 0} (m : Make S) (laws : Laws m) (bank : Meaning (Record S V
   idle : (s : ℕ) → row-of (replicate 16 Idle) s ≡ Idle
   idle s = same-everywhere 16 (s - 1) Idle
 
-  base : Kept m new empty-book
+  base : Kept m new new empty-book
   base =
       record {
         ent = ent;
@@ -65,11 +61,14 @@ module _ {S V : Type 0} (m : Make S) (laws : Laws m) (bank : Meaning (Record S V
               reads = λ k le e. let z : _≡_ {A = ℕ} 0 1 = cc in let bad : ⊥ = omega arith in absurd bad;
               kept = held;
               above = λ a u lo hi. let z : ⊥ = omega arith in absurd z;
-              rows = λ s k. subst (Row-fits n 0 cells ent 0 s) (sym (idle s)) (refl, λ j le e. let p = inside-parts n s k .0 in let z : ⊥ = omega arith in absurd z);
+              rows = λ s k. subst (Row-fits σ s) (sym (idle s)) (refl, λ j le e. let p = inside-parts n s k .0 in let z : ⊥ = omega arith in absurd z);
               full = λ w r k. (x, cond-true (known (bank .stations) w r) (Some x) None (subst (λ q. known q w r ≡ true) stations k));
             };
         told =
             record {
+              same-stations = refl;
+              same-origin = refl;
+              rest = λ k _. refl;
               some = some;
               stations = few;
               bank = sym stations;
@@ -84,7 +83,7 @@ module _ {S V : Type 0} (m : Make S) (laws : Laws m) (bank : Meaning (Record S V
             };
       }
 
-pub making : {S V : Type 0} (m : Make S) (laws : Laws m) (bank : Meaning (Record S V)) (n k : ℕ) (v : V) (lines : List (Line S V)) (size : ℕ) (M : Machine S V) → make m bank n k v lines size ≡ Ok M → Kept m M empty-book
+pub making : {S V : Type 0} (m : Make S) (laws : Laws m) (bank : Meaning (Record S V)) (n k : ℕ) (v : V) (lines : List (Line S V)) (size : ℕ) (M : Machine S V) → make m bank n k v lines size ≡ Ok M → Kept m M M empty-book
 making {S} {V} m laws bank n k v lines size M =
     cond-both (inside 16 n) _ _ P
     (λ hn. cond-both (eqb n (bank .stations)) _ _ P
@@ -97,15 +96,15 @@ making {S} {V} m laws bank n k v lines size M =
     (λ _ e. refused _ e)
   where
     P : Result (Machine S V) Refusal → Type 0
-    P a = a ≡ Ok M → Kept m M empty-book
+    P a = a ≡ Ok M → Kept m M M empty-book
 
-    refused : (q : Refusal) → Err q ≡ Ok M → Kept m M empty-book
+    refused : (q : Refusal) → Err q ≡ Ok M → Kept m M M empty-book
     refused q e = let z : _≡_ {A = ℕ} 0 1 = cc in let bad : ⊥ = omega arith in absurd bad
 
     first : 1 ≤ n → n ≤ 16 → n ≡ bank .stations → k ≤ m .greatest → size ≤ length lines → P (made bank n v lines size (m .first k))
     first some few stations le room =
         let f = laws .first-stamp k le in
-        subst (λ o. P (made bank n v lines size o)) (sym (f .1)) (λ e. subst (λ N. Kept m N empty-book) (ok-in _ M e) (base m laws bank n size lines (record { tag = f .0; value = v }) some few stations room (f .3)))
+        subst (λ o. P (made bank n v lines size o)) (sym (f .1)) (λ e. subst (λ N. Kept m N N empty-book) (ok-in _ M e) (base m laws bank n size lines (record { tag = f .0; value = v }) some few stations room (f .3)))
       where
         ok-in : (N O : Machine S V) → _≡_ {A = Result (Machine S V) Refusal} (Ok N) (Ok O) → N ≡ O
         ok-in N O e = cc

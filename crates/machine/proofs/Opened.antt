@@ -1,10 +1,9 @@
 -- An open keeps what is kept, as the machine and the book tell it. Assumes nothing.
 use mathlib.Core.Path.{_≡_, refl, sym, _∙_, subst, ap}
-use mathlib.Core.Bool.{Bool, true, false, cond, _&&_}
-use mathlib.Core.Logic.{_≢_}
+use mathlib.Core.Bool.{true}
 use Prim.Native.Nat.{ℕ, _+_, _-_, _≤_, _<_}
 use native.Mathlib.Omega.{arith}
-use lib.Dec.{eqb, leb, ltb}
+use lib.Dec.{leb, ltb}
 use lib.ListN.{length, set}
 use Rattle.std.specs.shelf.Maps.{nth}
 use Rattle.std.proofs.shelf.Lists.{length-set}
@@ -12,7 +11,7 @@ use Rattle.std.proofs.shelf.Tests.{cond-both, ltb-true}
 use Rattle.std.specs.declared.option.Option.{Option}
 use Rattle.std.specs.declared.option.Option.the-variants.{None, Some}
 use Rattle.std.specs.declared.result.Result.{Result}
-use Rattle.std.specs.declared.result.Result.the-variants.{Ok, Err}
+use Rattle.std.specs.declared.result.Result.the-variants.{Ok}
 use Rattle.policy.specs.declared.refusal.Refusal.{Refusal}
 use Rattle.banks.specs.Meanings.{inside, at-row}
 use Rattle.stamps.specs.Makes.{Make, Laws}
@@ -20,27 +19,27 @@ use Rattle.machine.specs.Machines.{Machine, row-of, next-machine, fresh, open-
 use Rattle.machine.specs.Histories.{Operation, Book, note-open}
 use Rattle.machine.specs.Rules.{account}
 use Rattle.machine.specs.declared.line.Kind.{Kind}
-use Rattle.machine.specs.declared.line.Kind.the-variants.{Write, Read}
+use Rattle.machine.specs.declared.line.Kind.the-variants.{Read}
 use Rattle.machine.specs.declared.row.Row.{Row}
 use Rattle.machine.specs.declared.row.Row.the-variants.{Idle, Busy}
-use Rattle.machine.proofs.Entries.{Entry, cells-of, Kept}
-use Rattle.machine.proofs.Moves.{split, at-same, at-other}
+use Rattle.machine.proofs.Basics.{split, at-same, at-other, nth-set-same, nth-set-other}
+use Rattle.machine.proofs.Entries.{Entry, point-of, Kept}
 use Rattle.machine.proofs.Opening as one
-use Rattle.machine.proofs.Telling.{nth-set-same, nth-set-other, set-row, inv-rows}
+use Rattle.machine.proofs.Telling.{set-row, same-rows}
 
-module _ {S V : Type 0} (m : Make S) (laws : Laws m) (M : Machine S V) (b : Book S V) (kept : Kept m M b) (s : ℕ) (kind : Kind) (given : Option V) (v : V) (start-value : kind ≡ Read → v ≡ M .origin .value) (no-given : kind ≡ Read → given ≡ None) (own : (u : V) → given ≡ Some u → v ≡ u) where
+module _ {S V : Type 0} {m : Make S} (laws : Laws m) {M : Machine S V} {b : Book S V} {old : Machine S V} (kept : Kept m old M b) (s : ℕ) (kind : Kind) (given : Option V) (v : V) (start-value : kind ≡ Read → v ≡ M .origin .value) (no-given : kind ≡ Read → given ≡ None) (own : (u : V) → given ≡ Some u → v ≡ u) where
   abbrev After : Result ℕ Refusal × Machine S V → Type 0
-  After p = Kept m (p .1) (note-open b kind s given (p .0))
+  After p = Kept m old (p .1) (note-open b kind s given (p .0))
 
-  module _ (known-s : inside (M .stations) s ≡ true) (idle : row-of (M .rows) s ≡ Idle) (room : M .used < M .size) where
+  module _ (h : one.Opens m (point-of M (kept .ent)) s kind given v) (room : M .used < M .size) where
     abbrev i : ℕ
     i = M .used + 1
 
     abbrev e : Entry S V
-    e = one.new m laws (M .origin) (M .stations) (M .used) (M .moment) (cells-of (M .bank)) (row-of (M .rows)) (kept .ent) (kept .inv) (kept .told .some) s known-s idle kind given v start-value no-given own
+    e = one.new laws h
 
     rows : (w : ℕ) → inside (M .stations) w ≡ true → row-of (set (M .rows) (s - 1) (Busy i 0)) w ≡ at-row (row-of (M .rows)) s (Busy i 0) w
-    rows = set-row (M .rows) (M .stations) s (Busy i 0) (kept .told .rows) (kept .told .stations) known-s
+    rows = set-row (M .rows) (M .stations) s (Busy i 0) (kept .told .rows) (kept .told .stations) (h .known)
 
     abbrev noted : Operation S V
     noted = record { line = i; kind = kind; station = s; given = given; opened = b .moment + 1; steps = 0; stamped = None; ended = None }
@@ -72,9 +71,12 @@ module _ {S V : Type 0} (m : Make S) (laws : Laws m) (M : Machine S V) (b : Book
     opened =
         record {
           ent = at-row (kept .ent) i e;
-          inv = inv-rows (at-row (row-of (M .rows)) s (Busy i 0)) (row-of (set (M .rows) (s - 1) (Busy i 0))) rows (one.opened m laws (M .origin) (M .stations) (M .used) (M .moment) (cells-of (M .bank)) (row-of (M .rows)) (kept .ent) (kept .inv) (kept .told .some) s known-s idle kind given v start-value no-given own);
+          inv = same-rows m (one.opened-point laws h) (row-of (set (M .rows) (s - 1) (Busy i 0))) rows (one.opened laws h);
           told =
               record {
+                same-stations = kept .told .same-stations;
+                same-origin = kept .told .same-origin;
+                rest = λ k le. nth-set-other (M .lines) (M .used) k (fresh M s kind v) (omega arith) ∙ kept .told .rest k (omega arith);
                 some = kept .told .some;
                 stations = kept .told .stations;
                 bank = kept .told .bank;
@@ -91,8 +93,8 @@ module _ {S V : Type 0} (m : Make S) (laws : Laws m) (M : Machine S V) (b : Book
 
   by-row : (r : Row) → row-of (M .rows) s ≡ r → inside (M .stations) s ≡ true → After (open-row M s kind v r)
   by-row (Busy j c) q k = kept
-  by-row Idle q k = cond-both (ltb (M .used) (M .size)) _ _ After (λ lt. opened k q (ltb-true _ _ lt)) (λ _. kept)
+  by-row Idle q k = cond-both (ltb (M .used) (M .size)) _ _ After (λ lt. opened (record { inv = kept .inv; some = kept .told .some; known = k; idle = q; start-value = start-value; no-given = no-given; own = own }) (ltb-true _ _ lt)) (λ _. kept)
 
-  pub open-kept : Kept m (open-line M s kind v .1) (note-open b kind s given (open-line M s kind v .0))
+  pub open-kept : Kept m old (open-line M s kind v .1) (note-open b kind s given (open-line M s kind v .0))
   open-kept =
       cond-both (leb (M .size) (length (M .lines))) _ _ After (λ _. cond-both (inside (M .stations) s) _ _ After (λ k. by-row (row-of (M .rows) s) refl k) (λ _. kept)) (λ _. kept)

@@ -1,11 +1,10 @@
 -- What the history of a run shows of a stamped operation is what its entry has. Assumes nothing.
 --     seen e t            a stamped entry, as the law sees it
 --     Shown               the entry behind a stamped operation of the history
-use mathlib.Core.Path.{_≡_, refl, sym, _∙_, subst, ap}
-use mathlib.Core.Bool.{Bool, true, false, cond}
+use mathlib.Core.Path.{_≡_, refl, sym, _∙_, ap}
 use mathlib.Core.List.{List}
-use mathlib.Core.Logic.{⊎-elim, _≢_}
-use Prim.Native.Nat.{ℕ, _+_, _-_, _*_, _≤_, _<_}
+use mathlib.Core.Logic.{⊎-elim}
+use Prim.Native.Nat.{ℕ, _-_, _≤_, _<_}
 use native.Mathlib.Omega.{arith}
 use lib.Dec.{eqb, leb}
 use Rattle.std.specs.Options.{valueOr}
@@ -16,10 +15,10 @@ use Rattle.std.specs.declared.option.Option.the-variants.{None, Some}
 use Rattle.stamps.specs.Makes.{Make}
 use Rattle.machine.specs.Machines.{Machine}
 use Rattle.machine.specs.Runs.{Note}
-use Rattle.machine.specs.Histories.{End, as-done, as-spent, Operation, Book}
+use Rattle.machine.specs.Histories.{End, as-done, Operation, Book}
 use Rattle.machine.specs.Rules.{History, Stamped, starting, end-moment, stamped-with, stamped, account}
+use Rattle.machine.proofs.Basics.{none-some, some-in, some-pair}
 use Rattle.machine.proofs.Entries.{Entry, Done-at, Phase, collecting, spreading, finished, refused, Kept}
-use Rattle.machine.proofs.Moved.{none-some, some-pair}
 
 module _ {S V : Type 0} where
   abbrev pub seen : Entry S V → ℕ → Stamped S V
@@ -42,14 +41,11 @@ module _ {S V : Type 0} where
   pub ended-in : (o : Option (ℕ × End S V)) (t : ℕ) → end-moment o ≡ Some t → (g : End S V) × (o ≡ Some (t, g))
   ended-in None t e = absurd (none-some _ t refl e)
   ended-in (Some p) t e = (p .1, ap (λ u. Some (u, p .1)) (some-in (p .0) t e))
-    where
-      some-in : (a b : ℕ) → Some a ≡ Some b → a ≡ b
-      some-in a b q = cc
 
-module _ {S V : Type 0} (m : Make S) (M : Machine S V) (b : Book S V) (notes : List (Note S V)) (kept : Kept m M b) where
+module _ {S V : Type 0} (m : Make S) (M : Machine S V) (b : Book S V) (notes : List (Note S V)) {old : Machine S V} (kept : Kept m old M b) where
   abbrev pub told-history : History S V
   told-history =
-      record { stations = M .stations; origin = M .origin; notes = notes; book = b; moment = M .moment; lines = M .lines; used = M .used }
+      record { stations = M .stations; origin = M .origin; notes = notes; book = b; moment = M .moment; before = old .lines; lines = M .lines; used = M .used }
 
   pub record Shown (k : ℕ) (x : Stamped S V) : Type 0 where
     pub low : k ≤ M .used
@@ -80,9 +76,6 @@ module _ {S V : Type 0} (m : Make S) (M : Machine S V) (b : Book S V) (notes : L
       by : (q : Option ℕ) → kept .ent k .op .stamped ≡ q → k ≤ M .used → Shown k x
       by None eq le = absurd (none-some _ x (stamped-is k le ∙ ap (view (kept .ent k)) eq) e)
       by (Some t) eq le = record { low = le; at = t; stamped = eq; is = some-in _ _ (sym (stamped-is k le ∙ ap (view (kept .ent k)) eq) ∙ e) }
-        where
-          some-in : (y z : Stamped S V) → Some y ≡ Some z → y ≡ z
-          some-in y z q = cc
 
   pub shows : (k t : ℕ) → k ≤ M .used → kept .ent k .op .stamped ≡ Some t → stamped told-history k ≡ Some (seen (kept .ent k) t)
   shows k t le e = stamped-is k le ∙ ap (view (kept .ent k)) e

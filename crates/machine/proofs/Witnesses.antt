@@ -1,18 +1,18 @@
 -- Runs of three stations in which the three wrong machines break the law. Assumes nothing.
-use mathlib.Core.Path.{_≡_, refl}
-use mathlib.Core.Bool.{Bool, true, false}
+use mathlib.Core.Path.{refl}
+use mathlib.Core.Bool.{true, false}
 use mathlib.Core.List.{List, [], _∷_}
-use Prim.Native.Nat.{ℕ, zero, suc, _<_}
+use Prim.Native.Nat.{ℕ, zero, suc}
 use lib.Dec.{lit<}
 use lib.ListN.{replicate}
 use Rattle.std.proofs.shelf.Tests.{both-ways}
 use Rattle.std.specs.declared.option.Option.the-variants.{Some}
 use Rattle.banks.specs.declared.record.Record.{Record}
-use Rattle.banks.specs.Meanings.{Meaning, filled}
+use Rattle.banks.specs.Meanings.{filled}
 use Rattle.machine.specs.Machines.{Machine}
 use Rattle.machine.specs.Runs.{Call, write-call, read-call, step-call}
 use Rattle.machine.specs.Rules.{Stamped}
-use Rattle.machine.specs.Wrong.{pairs, blank, line, quiet-act, early-act, tied-act, Breaks}
+use Rattle.machine.specs.Wrong.{blank, line, quiet-act, early-act, tied-act, Breaks}
 use Rattle.machine.specs.declared.line.Kind.{Kind}
 use Rattle.machine.specs.declared.line.Kind.the-variants.{Write, Read}
 use Rattle.machine.specs.declared.row.Row.the-variants.{Idle}

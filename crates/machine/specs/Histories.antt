@@ -2,7 +2,7 @@
 --     Operation S V       what is known of an operation: its open, its accepted steps, its stamping, its end
 --     Book S V            the accepted opens and steps so far, and the operations, numbered from 1 in the order of opening
 --     observed n b xs     the book b after the notes xs of a register of n stations
-use mathlib.Core.Bool.{Bool, cond}
+use mathlib.Core.Bool.{cond}
 use mathlib.Core.List.{List, [], _∷_}
 use Prim.Native.Nat.{ℕ, _+_}
 use lib.Dec.{eqb}

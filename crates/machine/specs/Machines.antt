@@ -6,7 +6,7 @@
 --     open-line M s kind v    what an open answers and leaves
 --     open-write, open-read   its two forms
 --     mark-cell M w r up      what a mark answers and leaves
-use mathlib.Core.Bool.{Bool, true, false, cond, _&&_}
+use mathlib.Core.Bool.{Bool, cond, _&&_}
 use mathlib.Core.List.{List}
 use Prim.Native.Nat.{ℕ, _+_, _-_}
 use lib.Dec.{eqb, leb, ltb}
@@ -22,7 +22,6 @@ use Rattle.banks.specs.Meanings.{Meaning, inside, filled, mark}
 use Rattle.stamps.specs.Makes.{Make}
 use Rattle.machine.specs.declared.line.Kind.{Kind}
 use Rattle.machine.specs.declared.line.Kind.the-variants.{Write, Read}
-use Rattle.machine.specs.declared.line.LineState.{LineState}
 use Rattle.machine.specs.declared.line.LineState.the-variants as states
 use Rattle.machine.specs.declared.line.Line.{Line}
 use Rattle.machine.specs.declared.row.Row.{Row}

@@ -8,17 +8,16 @@
 --     Law-of-runs V m     the law of every run of every register whose make was accepted
 --     Refusals-leave V m  a refused call changes nothing, unless the refusal is 14
 use mathlib.Core.Path.{_≡_}
-use mathlib.Core.Bool.{Bool, true, false, cond}
+use mathlib.Core.Bool.{true, false, cond}
 use mathlib.Core.List.{List}
 use mathlib.Core.Logic.{_↔_}
-use Prim.Native.Nat.{ℕ, _+_, _-_, _*_, _≤_, _<_}
+use Prim.Native.Nat.{ℕ, _-_, _*_, _≤_, _<_}
 use lib.Dec.{eqb, leb}
 use Rattle.std.specs.Options.{valueOr}
 use Rattle.std.specs.shelf.Lists.{All}
 use Rattle.std.specs.shelf.Maps.{nth}
 use Rattle.std.specs.declared.option.Option.{Option}
 use Rattle.std.specs.declared.option.Option.the-variants.{None, Some}
-use Rattle.std.specs.declared.result.Result.{Result}
 use Rattle.std.specs.declared.result.Result.the-variants.{Ok, Err}
 use Rattle.policy.specs.Refusals.{number-of}
 use Rattle.policy.specs.declared.refusal.Refusal.{Refusal}
@@ -34,13 +33,14 @@ use Rattle.machine.specs.declared.line.LineState.{LineState}
 use Rattle.machine.specs.declared.line.LineState.the-variants.{Collecting, Spreading, Done, Spent}
 use Rattle.machine.specs.declared.line.Line.{Line}
 
--- The journal: the handed lines after the run, and how many are in use.
+-- The journal: the handed lines before and after the run, and how many are in use.
 pub record History (S V : Type 0) : Type 0 where
   pub stations : ℕ
   pub origin : Record S V
   pub notes : List (Note S V)
   pub book : Book S V
   pub moment : ℕ
+  pub before : List (Line S V)
   pub lines : List (Line S V)
   pub used : ℕ
 
@@ -64,6 +64,7 @@ module _ {S V : Type 0} where
         notes = run .0;
         book = observed (M .stations) empty-book (run .0);
         moment = run .1 .moment;
+        before = M .lines;
         lines = run .1 .lines;
         used = run .1 .used;
       }
@@ -171,6 +172,8 @@ module _ {S V : Type 0} where
     pub moments : h .moment ≡ h .book .moment
     pub in-use : h .used ≡ h .book .count
     pub accounts : (k : ℕ) → 1 ≤ k → k ≤ h .book .count → Accounted (h .stations) (h .lines) k (h .book .operation k)
+    -- the lines not in use keep what they held
+    pub rest : (k : ℕ) → h .used ≤ k → nth (h .lines) k ≡ nth (h .before) k
     pub clean : All (Clean (h .stations)) (h .notes)
 
 -- for every bank of n stations, 1 to 16; every starting count k up to the greatest; every starting value; every journal of
