@@ -5,15 +5,15 @@ use crate::makes::renumbered;
 use crate::makes::split;
 use banks::bank::Bank;
 use banks::bank::Mark;
-use banks::board::calls::BoardBank;
-use banks::post::calls::PostBank;
-use banks::renumbering::calls::RenumberingBank;
-use banks::split::calls::SplitBank;
+use layers::renumbering::calls::RenumberingBank;
+use layers::split::calls::SplitBank;
 use policy::refusal::Place;
 use policy::refusal::Refusal;
 use policy::refusal::RefusalDebug;
 use policy::refusal::RefusalPartialEq;
 use std::test::*;
+use table_banks::board::calls::BoardBank;
+use table_banks::post::calls::PostBank;
 
 // Two stations, filled with 7: cell (1, 2) while 9 is open in it, and behind that. `open` is what a read answers then.
 fn open_and_settle<B: Bank<u32>>(bank: &mut B, open: u32) -> Result<(), Fail> {

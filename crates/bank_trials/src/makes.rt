@@ -1,15 +1,9 @@
 // Making banks and layers, and how that is refused.
 use banks::bank::Bank;
-use banks::board::Board;
-use banks::board::BoardLine;
-use banks::board::BoardLineClone;
-use banks::board::calls::BoardBank;
-use banks::post::Post;
-use banks::post::calls::PostBank;
-use banks::renumbering::Renumbering;
-use banks::renumbering::calls::RenumberingBank;
-use banks::split::Split;
-use banks::split::calls::SplitBank;
+use layers::renumbering::Renumbering;
+use layers::renumbering::calls::RenumberingBank;
+use layers::split::Split;
+use layers::split::calls::SplitBank;
 use policy::refusal::Refusal;
 use policy::refusal::RefusalDebug;
 use policy::refusal::RefusalDisplay;
@@ -17,6 +11,12 @@ use policy::refusal::RefusalPartialEq;
 use std::alloc::AllocError;
 use std::alloc::Global;
 use std::test::*;
+use table_banks::board::Board;
+use table_banks::board::BoardLine;
+use table_banks::board::BoardLineClone;
+use table_banks::board::calls::BoardBank;
+use table_banks::post::Post;
+use table_banks::post::calls::PostBank;
 
 const BLANK: BoardLine<u32> = BoardLine {
     settled: 1,

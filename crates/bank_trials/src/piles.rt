@@ -5,15 +5,15 @@ use crate::makes::renumbered;
 use crate::makes::split;
 use banks::bank::Bank;
 use banks::bank::Mark;
-use banks::board::calls::BoardBank;
 use banks::laws::fill_regular;
-use banks::post::calls::PostBank;
-use banks::renumbering::calls::RenumberingBank;
-use banks::split::calls::SplitBank;
+use layers::renumbering::calls::RenumberingBank;
+use layers::split::calls::SplitBank;
 use policy::refusal::Refusal;
 use policy::refusal::RefusalDebug;
 use policy::refusal::RefusalPartialEq;
 use std::test::*;
+use table_banks::board::calls::BoardBank;
+use table_banks::post::calls::PostBank;
 
 #[test]
 fn three_layers(rt: LibcRuntime) -> Result<(), Fail> {
