@@ -6,6 +6,7 @@ use mathlib.Core.Logic.{_⊎_, inl, inr, ⊎-elim}
 use Prim.Native.Nat.{ℕ}
 use native.Mathlib.Omega.{arith}
 use lib.Dec.{eqb}
+use Rattle.banks.proofs.Shared.{Left}
 use Rattle.std.specs.Results.{isOk}
 use Rattle.std.specs.declared.option.Option.{Option}
 use Rattle.std.specs.declared.option.Option.the-variants.{None, Some}
@@ -16,7 +17,6 @@ use Rattle.policy.specs.declared.refusal.Refusal.{Refusal}
 use Rattle.policy.specs.declared.refusal.Refusal.the-variants.{UnknownStation, Unreachable, RecordOpen, NothingOpen}
 use Rattle.banks.specs.Meanings.{Meaning, inside, known, at-cell, at-row, filled, chosen, record-or-4, read, start, start-at, started, finish, finish-at, finished, mark, marked}
 use Rattle.banks.specs.Histories.{Call, fills, reads, starts, finishes, marks, Event, was-filled, was-read, was-started, was-finished, was-marked, left, accepted, event, run, underway, settled-by, last-finished, last-marked, Regular, RegularFrom, writer-of, Undisturbed}
-use Rattle.banks.proofs.Bottoms.{Left}
 
 -- how a bank of n stations goes with a history
 pub record Goes {R : Type 0} (n : ℕ) (m : Meaning R) (h : List (Event R)) : Type 0 where

@@ -1,12 +1,2 @@
-pub mod Boards
-pub mod Bottoms
 pub mod Histories
-pub mod Layers
-pub mod Noting
-pub mod Permuting
-pub mod Placing
-pub mod Posts
-pub mod Renumberings
-pub mod Splits
-pub mod Stations
-pub mod Tables
+pub mod Shared

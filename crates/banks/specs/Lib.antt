@@ -1,13 +1,3 @@
-pub mod Boards
-pub mod Bottoms
-pub mod Cells
 pub mod Histories
-pub mod Layers
 pub mod Marks
 pub mod Meanings
-pub mod Notes
-pub mod Numberings
-pub mod Permutations
-pub mod Posts
-pub mod Renumberings
-pub mod Splits

@@ -1,13 +1,4 @@
-// Banks of cells, each written by one station and read by one.
+// Banks of cells, each written by one station and read by one: what every bank offers and means.
 pub mod bank;
-pub mod board;
-mod cell;
 pub mod laws;
-mod layer;
-mod notes;
-mod permutation;
-pub mod post;
 pub mod record;
-pub mod renumbering;
-pub mod split;
-mod table;

@@ -1,5 +1,0 @@
-use Rattle.banks.proofs.Noting.{fresh-noting}
-use Rattle.banks.proofs.notes.Notes.reset.Needs as need
-
-pub returns : need.returns
-returns c = fresh-noting (c .args .self .now .count)
