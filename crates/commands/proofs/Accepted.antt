@@ -1,5 +1,5 @@
 -- When the first command of a list of bytes is accepted. Assumes nothing.
-use mathlib.Core.Path.{_≡_, refl, _∙_}
+use mathlib.Core.Path.{_≡_, _∙_}
 use mathlib.Core.Bool.{true}
 use mathlib.Core.List.{List, [], _∷_}
 use Prim.Native.Nat.{ℕ, suc, _-_, _<_}
@@ -10,6 +10,7 @@ use Rattle.std.proofs.shelf.Lists.{take-rest, getD-drop}
 use Rattle.std.proofs.shelf.Tests.{le-leb, cond-true}
 use Rattle.std.specs.declared.option.Option.the-variants.{Some}
 use Rattle.std.specs.declared.result.Result.the-variants.{Ok}
+use Rattle.commands.specs.declared.command.Command.{Command}
 use Rattle.commands.specs.declared.command.Command.the-variants.{Make, Write}
 use Rattle.commands.specs.Commands.{Decoded, decoded, word, policy, decoded-at, command, width}
 
@@ -21,15 +22,16 @@ accepted b k (x ∷ xs) first wide long =
     let enough : leb k (length xs) ≡ true = le-leb k (length xs) (omega arith) in
     at-b ∙ cond-true (leb k (length xs)) _ _ enough
 
--- the commands with words, which are read from the whole input
-pub make-accepted : (xs : List ℕ) (n v : ℕ) → getD xs 0 0 ≡ 1 → 10 < length xs → n ≡ word xs 3 → v ≡ word xs 7 → _≡_ {A = Decoded} (Ok (Some (Make (getD xs 1 0) (getD xs 2 0) n (policy v), take (length xs - 11) (drop 11 xs)))) (decoded xs)
-make-accepted xs n v first long count value =
-    let whole = simp getD-drop at (accepted 1 10 xs first refl long) in
-    let rest = take-rest xs 11 in
+-- the command as the code puts it together, and the rest as the pattern gives it
+pub arm : (b k : ℕ) (xs : List ℕ) (x : Command) → getD xs 0 0 ≡ b → width b ≡ Some k → k < length xs → command b (drop 1 xs) ≡ x → _≡_ {A = Decoded} (Ok (Some (x, take (length xs - suc k) (drop (suc k) xs)))) (decoded xs)
+arm b k xs x first wide long same =
+    let whole = accepted b k xs first wide long in
+    let rest = take-rest xs (suc k) in
     cc
 
-pub write-accepted : (xs : List ℕ) (v : ℕ) → getD xs 0 0 ≡ 2 → 5 < length xs → v ≡ word xs 2 → _≡_ {A = Decoded} (Ok (Some (Write (getD xs 1 0) (policy v), take (length xs - 6) (drop 6 xs)))) (decoded xs)
-write-accepted xs v first long value =
-    let whole = simp getD-drop at (accepted 2 5 xs first refl long) in
-    let rest = take-rest xs 6 in
-    cc
+-- the commands with words, which are read from the whole input
+pub make-arm : (xs : List ℕ) (n v : ℕ) → n ≡ word xs 3 → v ≡ word xs 7 → command 1 (drop 1 xs) ≡ Make (getD xs 1 0) (getD xs 2 0) n (policy v)
+make-arm xs n v count value = simp getD-drop (cc)
+
+pub write-arm : (xs : List ℕ) (v : ℕ) → v ≡ word xs 2 → command 2 (drop 1 xs) ≡ Write (getD xs 1 0) (policy v)
+write-arm xs v value = simp getD-drop (cc)

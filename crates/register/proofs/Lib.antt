@@ -1,0 +1,5 @@
+mod Accepts
+mod Founding
+mod Owes
+mod Reaching
+mod Ties

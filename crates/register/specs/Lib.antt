@@ -1,0 +1,7 @@
+pub mod CellWork
+pub mod Makings
+pub mod Owing
+pub mod Reach
+pub mod Rows
+pub mod Seen
+pub mod Stages
