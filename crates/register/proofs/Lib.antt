@@ -1,5 +1,6 @@
 mod Accepts
 mod Founding
+mod Latest
 mod Owes
 mod Reaching
 mod Ties

@@ -1,4 +1,5 @@
 pub mod CellWork
+pub mod Lookups
 pub mod Makings
 pub mod Owing
 pub mod Reach

@@ -106,7 +106,14 @@ impl<S: Stamp, V: Copy> Register<S, V> {
                 bank.finish(station)?;
                 let state = LineState::Done;
                 let ended = self.moment + 1;
-                journal.put(number, Line { state, ended, ..line });
+                journal.put(
+                    number,
+                    Line {
+                        state,
+                        ended,
+                        ..line
+                    },
+                );
                 self.end(station, number, progress);
                 Ok(Stepped::Done(line.stamp, line.value))
             }
@@ -132,14 +139,28 @@ impl<S: Stamp, V: Copy> Register<S, V> {
         match line.stamp.next(station) {
             Some(stamp) => {
                 let state = LineState::Spreading;
-                journal.put(number, Line { stamp, state, ..line });
+                journal.put(
+                    number,
+                    Line {
+                        stamp,
+                        state,
+                        ..line
+                    },
+                );
                 self.go_on(station, number, progress);
                 Ok(Stepped::Going)
             }
             None => {
                 let state = LineState::Spent;
                 let ended = self.moment + 1;
-                journal.put(number, Line { state, ended, ..line });
+                journal.put(
+                    number,
+                    Line {
+                        state,
+                        ended,
+                        ..line
+                    },
+                );
                 self.end(station, number, progress);
                 Err(Refusal::Spent)
             }
