@@ -3,7 +3,7 @@ use mathlib.Core.Path.{_≡_, refl, sym, ap, subst, _∙_}
 use mathlib.Core.Bool.{Bool, true, false, cond}
 use mathlib.Core.List.{List}
 use mathlib.Core.Logic.{inl, inr}
-use Prim.Native.Nat.{ℕ, zero, suc, _+_, _-_, _≤_, _<_}
+use Prim.Native.Nat.{ℕ, zero, suc, _+_, _-_, _<_}
 use native.Mathlib.Omega.{arith}
 use lib.Dec.{eqb}
 use Rattle.std.specs.shelf.Maps.{nth}
@@ -15,7 +15,7 @@ use Rattle.machine.specs.declared.line.Kind.the-variants.{Write, Read}
 use Rattle.machine.specs.declared.line.LineState.{LineState}
 use Rattle.machine.specs.declared.line.LineState.the-variants.{Collecting, Spreading, Done, Spent}
 use Rattle.machine.specs.declared.line.Line.{Line}
-use Rattle.register.specs.Lookups.{done-write, done-write-of, found-at, last-of, Finished-write, Highest}
+use Rattle.register.specs.Lookups.{done-write, found-at, last-of, Finished-write, Highest}
 
 false-true : _≡_ {A = Bool} false true → ⊥
 false-true e = let z : _≡_ {A = ℕ} 0 1 = cc in omega arith

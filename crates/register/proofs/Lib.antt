@@ -3,4 +3,5 @@ mod Founding
 mod Latest
 mod Owes
 mod Reaching
+mod Singles
 mod Ties

@@ -5,4 +5,5 @@ pub mod Owing
 pub mod Reach
 pub mod Rows
 pub mod Seen
+pub mod Single
 pub mod Stages

@@ -1,9 +1,8 @@
 use mathlib.Core.Path.{_≡_, sym, ap, _∙_}
-use mathlib.Core.Bool.{true, false}
 use native.Mathlib.Omega.{arith}
 use Rattle.register.specs.Lookups.{found-at, last-of}
 use Rattle.register.proofs.Latest.{passed-over, stopped-at, nothing-left, highest-as}
-use Rattle.register.proofs.register.lookup.last_done.Needs as need
+use Rattle.register.proofs.register.calls.lookup.last_done.Needs as need
 
 pub returns-then-is-done-write : need.returns-then-is-done-write
 returns-then-is-done-write g c =
