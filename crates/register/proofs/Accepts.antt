@@ -20,7 +20,6 @@ use Rattle.machine.specs.Machines.{Machine, row-of, next-machine, fresh, open-r
 use Rattle.machine.specs.Steps.{step, step-row, step-line, step-stage}
 use Rattle.machine.specs.declared.line.Kind.{Kind}
 use Rattle.machine.specs.declared.line.Line.{Line}
-use Rattle.machine.specs.declared.row.Row.{Row}
 use Rattle.machine.specs.declared.row.Row.the-variants.{Idle, Busy}
 use Rattle.register.specs.Seen.{seen}
 use Rattle.register.specs.Stages.{choice-at}

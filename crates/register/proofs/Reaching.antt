@@ -1,9 +1,9 @@
 -- One call more leads on. Assumes nothing.
-use mathlib.Core.Path.{_≡_, refl, sym, ap, _∙_}
+use mathlib.Core.Path.{_≡_, refl, ap, _∙_}
 use mathlib.Core.List.{List, [], _∷_, _++_}
 use Rattle.stamps.specs.Makes.{Make}
 use Rattle.machine.specs.Machines.{Machine}
-use Rattle.machine.specs.Runs.{Call, Note, act, play}
+use Rattle.machine.specs.Runs.{Call, act, play}
 use Rattle.register.specs.Reach.{Reached}
 
 module _ {S V : Type 0} (m : Make S) where

@@ -1,6 +1,6 @@
 -- What the machine's step does at each stage, by what the cell work of the code answered. Assumes nothing.
 use mathlib.Core.Path.{_≡_, refl, sym, ap, _∙_}
-use mathlib.Core.Bool.{Bool, true, false}
+use mathlib.Core.Bool.{Bool}
 use mathlib.Core.List.{List}
 use Prim.Native.Nat.{ℕ, _+_, _-_, _*_, _/_, _%_, _≤_, _<_}
 use native.Mathlib.Omega.{arith}
@@ -15,9 +15,8 @@ use Rattle.policy.specs.declared.refusal.Refusal.{Refusal}
 use Rattle.banks.specs.Meanings.{Meaning, read, start, finish}
 use Rattle.banks.specs.declared.record.Record.{Record}
 use Rattle.stamps.specs.Makes.{Make, next-of}
-use Rattle.machine.specs.Machines.{Machine, record-of, next-machine, with-bank}
+use Rattle.machine.specs.Machines.{Machine, next-machine, with-bank}
 use Rattle.machine.specs.Steps.{collected, going, stamp-write, stamp-line, collect, spread, settle, step-stage, spread-to, in-state, ending}
-use Rattle.machine.specs.declared.line.Kind.{Kind}
 use Rattle.machine.specs.declared.line.Kind.the-variants.{Write, Read}
 use Rattle.machine.specs.declared.line.LineState.the-variants as states
 use Rattle.machine.specs.declared.line.Line.{Line}

@@ -1,7 +1,9 @@
 pub mod CellWork
+pub mod Lookups
 pub mod Makings
 pub mod Owing
 pub mod Reach
 pub mod Rows
 pub mod Seen
+pub mod Single
 pub mod Stages

@@ -1,7 +1,6 @@
 -- A register with its bank and its journal, as the plain machine. Assumes nothing.
 --     seen r bank lines       the machine: what the register keeps, the bank's meaning, the lines of the handed journal
 use mathlib.Core.List.{List}
-use Prim.Native.Nat.{ℕ}
 use Rattle.banks.specs.Meanings.{Meaning}
 use Rattle.banks.specs.declared.record.Record.{Record}
 use Rattle.machine.specs.Machines.{Machine}

@@ -5,10 +5,8 @@ ghost use Rattle.register.specs.Owing.{owed, past};
 use crate::table::Table;
 use banks::record::Record;
 
+pub mod calls;
 pub mod make;
-pub mod moves;
-pub mod opens;
-pub mod steps;
 
 // The most lines of a journal.
 pub const LINES: u64 = 4096;

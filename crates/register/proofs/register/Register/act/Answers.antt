@@ -6,7 +6,7 @@ use Rattle.std.specs.declared.result.Result.the-variants.{Ok}
 use Rattle.machine.specs.Machines.{Machine}
 use Rattle.machine.specs.declared.row.Stepped.the-variants.{Going, Done}
 use Rattle.register.specs.Seen.{seen}
-use Rattle.register.proofs.Ties.{broken, moved, collecting-tied, read-tied, write-tied, unread-tied, starting-tied, unstarted-tied, finishing-tied, ending-tied, unfinished-tied}
+use Rattle.register.proofs.Ties.{broken, moved, collecting-tied, read-tied, unread-tied, starting-tied, finishing-tied, ending-tied, unfinished-tied}
 use Rattle.register.proofs.register.Register.act.Needs as need
 
 pub returns-in-Break-line : need.returns-in-Break-line

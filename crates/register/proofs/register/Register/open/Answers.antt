@@ -1,4 +1,3 @@
-use mathlib.Core.Path.{_≡_, sym}
 use Rattle.register.proofs.Accepts.{open-tied}
 use Rattle.register.proofs.register.Register.open.Needs as need
 

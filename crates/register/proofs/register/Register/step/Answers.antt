@@ -10,6 +10,7 @@ use Rattle.register.specs.Stages.{choice-at}
 use Rattle.register.proofs.Accepts.{stepping}
 use Rattle.register.proofs.Reaching.{reaching}
 use Rattle.register.proofs.Owes.{before-end}
+use Rattle.register.proofs.Singles.{single-as}
 use Rattle.register.proofs.register.Register.step.Needs as need
 
 pub act-requires : need.act-requires
@@ -39,5 +40,6 @@ returns g c =
     record {
       call = call;
       reached = reaching m _ _ (step-call s (choice-at f s (row-of (r .table .rows) s))) (sym (ap (λ p. p .1) call));
+      single = single-as m M (choice-at f s (row-of (r .table .rows) s)) s _ call;
       lender = c .act .ensures .lender;
     }

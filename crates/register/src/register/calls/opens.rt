@@ -1,13 +1,10 @@
 // Opening a write or a read.
 ghost use mathlib.Core.Path.{_≡_};
-ghost use mathlib.Core.Bool.{cond};
 ghost use denote.Ref.{name};
 ghost use Prim.Native.Nat.{ℕ};
 ghost use Rattle.std.specs.declared.result.Result.{Result};
-ghost use Rattle.std.specs.declared.result.Result.the-variants.{Ok, Err};
 ghost use Rattle.policy.specs.declared.refusal.Refusal.{Refusal};
-ghost use Rattle.policy.specs.declared.refusal.Refusal.the-variants.{UnknownStation};
-ghost use Rattle.banks.specs.Meanings.{Meaning, inside};
+ghost use Rattle.banks.specs.Meanings.{Meaning};
 ghost use Rattle.banks.specs.declared.record.Record.{Record};
 ghost use Rattle.machine.specs.Machines.{Machine, open-line, open-write, open-read};
 ghost use Rattle.stamps.specs.Makes.{Make};
@@ -81,16 +78,5 @@ impl<S: Copy, V: Copy> Register<S, V> {
         journal.put(number, line);
         self.begin(station);
         Ok(number)
-    }
-
-    // Refused by 4 for a number that is no station.
-    pub fn known(&self, station: u8) -> Result<(), Refusal>
-        ensures { λ r. ⌜ r ≡ cond (inside (now (self .entry) .stations) station) (Ok tt) (Err UnknownStation) ⌝ }
-    {
-        if station >= 1 && station <= self.stations {
-            Ok(())
-        } else {
-            Err(Refusal::UnknownStation)
-        }
     }
 }

@@ -13,6 +13,7 @@ ghost use Rattle.machine.specs.declared.row.Row.the-variants.{Busy};
 ghost use Rattle.machine.specs.declared.row.Stepped.{Stepped};
 ghost use Rattle.register.specs.Reach.{Leads};
 ghost use Rattle.register.specs.Seen.{seen};
+ghost use Rattle.register.specs.Single.{Single};
 ghost use Rattle.register.specs.Stages.{choice-at};
 use crate::cells::collect;
 use crate::cells::spread;
@@ -39,6 +40,7 @@ impl<S: Stamp, V: Copy> Register<S, V> {
     ) -> Result<Stepped<S, V>, Refusal>
         ensures call { λ a. ⌜ _≡_ {A = Result (Stepped S V) Refusal × Machine S V} (a, seen (now (self .exit)) (B·Bank .meaning (now (bank .exit))) (now (now (journal .exit) .lines))) (steps (S·Stamp .make) (seen (now (self .entry)) (B·Bank .meaning (now (bank .entry))) (now (now (journal .entry) .lines))) (choice-at (B·Bank .chooses (now (bank .entry))) station (row-of (now (self .entry) .table .rows) station)) station) ⌝ }
         ensures reached { λ _. ⌜ Leads (S·Stamp .make) (seen (now (self .entry)) (B·Bank .meaning (now (bank .entry))) (now (now (journal .entry) .lines))) (seen (now (self .exit)) (B·Bank .meaning (now (bank .exit))) (now (now (journal .exit) .lines))) ⌝ }
+        ensures single { λ a. ⌜ Single station a (B·Bank .meaning (now (bank .entry))) (B·Bank .meaning (now (bank .exit))) ⌝ }
         ensures lender { λ _. ⌜ name (now (journal .exit) .lines) ≡ name (now (journal .entry) .lines) ⌝ }
     {
         journal.holds(self.size)?;
