@@ -11,6 +11,7 @@ ghost use Rattle.policy.specs.declared.refusal.Refusal.the-variants.{JournalSiz
 use policy::refusal::Refusal;
 
 // Lines are numbered from 1.
+#[derive(Drop)]
 pub struct Journal<'a, L> {
     lines: &'a mut [L],
 }
