@@ -1,1 +1,3 @@
+pub mod Histories
+pub mod Marks
 pub mod Meanings

@@ -1,13 +1,13 @@
 -- What a bank of cells means, and what each call answers and leaves. Assumes nothing.
 --     Meaning R                       a bank over records of the type R, as its calls see it
+--     Stationed m                     m has 1 to 16 stations
 --     inside n w                      w is one of the stations 1 to n
 --     filled m x                      m with every cell settled on x, nothing open, all cells reachable
 --     read m c w r                    what a read of cell (w, r) answers and leaves; c: of two records, the open one
 --     start m w r x, finish m w       what these calls answer and leave
 --     mark m w r up, located m w r    the same
-use mathlib.Core.Path.{_≡_}
-use mathlib.Core.Bool.{Bool, true, false, cond, _&&_}
-use Prim.Native.Nat.{ℕ}
+use mathlib.Core.Bool.{Bool, cond, _&&_}
+use Prim.Native.Nat.{ℕ, _≤_}
 use lib.Dec.{eqb, leb}
 use Rattle.std.specs.declared.option.Option.{Option}
 use Rattle.std.specs.declared.option.Option.the-variants.{None, Some}
@@ -29,6 +29,9 @@ pub record Meaning (R : Type 0) : Type 0 where
   pub opened : ℕ → Option (ℕ × R)
   pub reachable : ℕ → ℕ → Bool
   pub place : ℕ → ℕ → Place
+
+abbrev pub Stationed : {R : Type 0} → Meaning R → Type 0
+Stationed m = (1 ≤ m .stations) × (m .stations ≤ 16)
 
 abbrev pub inside : ℕ → ℕ → Bool
 inside n w = leb 1 w && leb w n

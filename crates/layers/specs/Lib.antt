@@ -1,0 +1,5 @@
+pub mod Layers
+pub mod Numberings
+pub mod Permutations
+pub mod Renumberings
+pub mod Splits

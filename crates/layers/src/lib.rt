@@ -1,0 +1,5 @@
+// Layers over banks, each a bank again: renumbering and split.
+mod layer;
+mod permutation;
+pub mod renumbering;
+pub mod split;

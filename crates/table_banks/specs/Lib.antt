@@ -1,0 +1,5 @@
+pub mod Boards
+pub mod Bottoms
+pub mod Cells
+pub mod Notes
+pub mod Posts
