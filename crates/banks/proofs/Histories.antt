@@ -2,7 +2,7 @@
 use mathlib.Core.Path.{_≡_, refl, sym, ap, subst, _∙_}
 use mathlib.Core.Bool.{Bool, true, false, cond, _&&_}
 use mathlib.Core.List.{List, [], _∷_}
-use mathlib.Core.Logic.{_⊎_, inl, inr, ⊎-elim}
+use mathlib.Core.Logic.{inl, inr}
 use Prim.Native.Nat.{ℕ}
 use native.Mathlib.Omega.{arith}
 use lib.Dec.{eqb}
@@ -14,9 +14,9 @@ use Rattle.std.specs.declared.result.Result.{Result}
 use Rattle.std.specs.declared.result.Result.the-variants.{Ok, Err}
 use Rattle.std.proofs.shelf.Tests.{cond-true, cond-false, eqb-true, ne-eqb, and-left, and-parts}
 use Rattle.policy.specs.declared.refusal.Refusal.{Refusal}
-use Rattle.policy.specs.declared.refusal.Refusal.the-variants.{UnknownStation, Unreachable, RecordOpen, NothingOpen}
-use Rattle.banks.specs.Meanings.{Meaning, inside, known, at-cell, at-row, filled, chosen, record-or-4, read, start, start-at, started, finish, finish-at, finished, mark, marked}
-use Rattle.banks.specs.Histories.{Call, fills, reads, starts, finishes, marks, Event, was-filled, was-read, was-started, was-finished, was-marked, left, accepted, event, run, underway, settled-by, last-finished, last-marked, Regular, RegularFrom, writer-of, Undisturbed}
+use Rattle.policy.specs.declared.refusal.Refusal.the-variants.{UnknownStation, Unreachable}
+use Rattle.banks.specs.Meanings.{Meaning, inside, known, filled, chosen, record-or-4, read, start, start-at, started, finish, finish-at, finished, mark, marked}
+use Rattle.banks.specs.Histories.{Call, fills, reads, starts, finishes, marks, Event, was-filled, was-read, was-started, was-finished, was-marked, left, accepted, event, run, underway, settled-by, last-finished, last-marked, Regular, RegularFrom, Undisturbed}
 
 -- how a bank of n stations goes with a history
 pub record Goes {R : Type 0} (n : ℕ) (m : Meaning R) (h : List (Event R)) : Type 0 where

@@ -6,8 +6,7 @@
 --     read m c w r                    what a read of cell (w, r) answers and leaves; c: of two records, the open one
 --     start m w r x, finish m w       what these calls answer and leave
 --     mark m w r up, located m w r    the same
-use mathlib.Core.Path.{_≡_}
-use mathlib.Core.Bool.{Bool, true, false, cond, _&&_}
+use mathlib.Core.Bool.{Bool, cond, _&&_}
 use Prim.Native.Nat.{ℕ, _≤_}
 use lib.Dec.{eqb, leb}
 use Rattle.std.specs.declared.option.Option.{Option}

@@ -1,19 +1,19 @@
 -- One lemma for each call, for every layer: cells that lie in a bank below, under other numbers. Assumes nothing.
 use mathlib.Core.Path.{_≡_, refl, sym, ap, _∙_}
-use mathlib.Core.Bool.{Bool, true, false, cond, _&&_, not}
+use mathlib.Core.Bool.{Bool, true, false, cond, _&&_}
 use Prim.Native.Nat.{ℕ}
-use lib.Dec.{eqb, leb}
+use lib.Dec.{eqb}
 use Rattle.banks.proofs.Shared.{Left, cond-map, cond-same, same-meaning}
 use Rattle.std.specs.Options.{mapped}
 use Rattle.std.specs.declared.option.Option.{Option}
 use Rattle.std.specs.declared.option.Option.the-variants.{None, Some}
 use Rattle.std.specs.declared.result.Result.{Result}
 use Rattle.std.specs.declared.result.Result.the-variants.{Ok, Err}
-use Rattle.std.proofs.shelf.Tests.{cond-true, cond-false, eqb-true, eqb-false, eq-eqb, ne-eqb, and-parts}
+use Rattle.std.proofs.shelf.Tests.{eqb-true, eqb-false, eq-eqb, ne-eqb, and-parts}
 use Rattle.policy.specs.declared.refusal.Refusal.{Refusal}
-use Rattle.policy.specs.declared.refusal.Refusal.the-variants.{UnknownStation, Unreachable, RecordOpen, NothingOpen}
+use Rattle.policy.specs.declared.refusal.Refusal.the-variants.{UnknownStation, Unreachable}
 use Rattle.banks.specs.Meanings.{Meaning, Place, inside, known, at-cell, at-row, filled, chosen, record-or-4, read, start, start-at, started, finish, finish-at, finished, mark, marked, located}
-use Rattle.layers.specs.Layers.{deepen, deeper, deepened, raised, beside, in-first, split-meaning, renumbered}
+use Rattle.layers.specs.Layers.{deepen, deepened, raised}
 
 -- an update, and a choice of two, in either order
 within-choice : {X : Type 0} (u t : Bool) (y a b : X) → (u ≡ true → t ≡ true) → cond u y (cond t a b) ≡ cond t (cond u y a) b

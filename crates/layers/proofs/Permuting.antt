@@ -3,7 +3,7 @@ use mathlib.Core.Path.{_≡_, refl, sym, ap, subst, _∙_}
 use mathlib.Core.Bool.{Bool, true, false, cond, not, _&&_, _||_}
 use mathlib.Core.List.{List}
 use mathlib.Core.Logic.{_⊎_, inl, inr, ⊎-elim}
-use Prim.Native.Nat.{ℕ, zero, suc, _+_, _-_, _<_, _≤_}
+use Prim.Native.Nat.{ℕ, _+_, _-_, _<_, _≤_}
 use native.Mathlib.Omega.{arith}
 use borrow.Author.Count.{below-more}
 use lib.Dec.{eqb, leb}
@@ -11,7 +11,7 @@ use lib.ListN.{getD, length, set, length-set}
 use lib.Seq.{getD-set-same, getD-set-other}
 use Rattle.banks.proofs.Shared.{inside-bounds}
 use Rattle.std.specs.Orderings.{Decides}
-use Rattle.std.proofs.shelf.Tests.{cases-eq, and-parts, and-from, cond-true, cond-false, le-leb, leb-true, cases-bool, both-ways}
+use Rattle.std.proofs.shelf.Tests.{cases-eq, and-from, cond-true, cond-false, le-leb, leb-true}
 use Rattle.std.proofs.shelf.Ways.{decides-and, decides-or, decides-not, decides-eqb, decides-below-and, decides-below-or, decides-like}
 use Rattle.banks.specs.Meanings.{inside}
 use Rattle.layers.proofs.Layers.{Renumbers}

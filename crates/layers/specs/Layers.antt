@@ -10,7 +10,6 @@ use mathlib.Core.Bool.{Bool, cond, not, _||_}
 use Prim.Native.Nat.{ℕ, _+_, min}
 use lib.Dec.{eqb, leb}
 use Rattle.std.specs.Options.{mapped}
-use Rattle.std.specs.declared.option.Option.{Option}
 use Rattle.std.specs.declared.result.Result.{Result}
 use Rattle.std.specs.declared.result.Result.the-variants.{Ok, Err}
 use Rattle.policy.specs.declared.refusal.Refusal.{Refusal}

@@ -5,18 +5,17 @@ use mathlib.Core.List.{List, _++_}
 use Prim.Native.Nat.{ℕ, _*_, _≤_, _<_}
 use native.Mathlib.Omega.{arith}
 use native.Mathlib.Nat.{le-refl}
-use lib.Dec.{eqb, leb}
-use lib.ListN.{length, replicate, set, drop}
+use lib.Dec.{eqb}
+use lib.ListN.{length, replicate, set}
 use Rattle.banks.proofs.Shared.{Left, cond-map}
 use Rattle.std.specs.Finite.{nth}
 use Rattle.std.specs.Options.{mapped}
 use Rattle.std.specs.declared.option.Option.{Option}
-use Rattle.std.specs.declared.option.Option.the-variants.{None, Some}
-use Rattle.std.proofs.shelf.Maps.{nth-getD}
+use Rattle.std.specs.declared.option.Option.the-variants.{Some}
 use Rattle.banks.specs.Meanings.{Meaning, known, start, finish, at-cell}
 use Rattle.table_banks.specs.Cells.{cell}
 use Rattle.table_banks.specs.Notes.{Noted, seen, noting, fresh, noted-start, noted-finish}
-use Rattle.table_banks.specs.Bottoms.{bottom, filling}
+use Rattle.table_banks.specs.Bottoms.{filling}
 use Rattle.table_banks.specs.Boards.{on-board, board-lines, line-settled, line-open}
 use Rattle.std.specs.Of.Vec.{vec-len}
 use Rattle.table_banks.specs.declared.board.BoardLine.{BoardLine}

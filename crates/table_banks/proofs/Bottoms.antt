@@ -1,7 +1,6 @@
 -- Lemmas on banks at the bottom of a pile. Assumes nothing.
 use mathlib.Core.Path.{_≡_, refl, sym, ap, _∙_}
 use mathlib.Core.Bool.{Bool, true, false, cond, _&&_}
-use mathlib.Core.Logic.{_⊎_, inl, inr, ⊎-elim}
 use mathlib.Core.List.{List}
 use Prim.Native.Nat.{ℕ, _≤_}
 use lib.ListN.{length}
@@ -13,11 +12,11 @@ use Rattle.std.specs.declared.option.Option.{Option}
 use Rattle.std.specs.declared.option.Option.the-variants.{None, Some}
 use Rattle.std.specs.declared.result.Result.{Result}
 use Rattle.std.specs.declared.result.Result.the-variants.{Ok, Err}
-use Rattle.std.proofs.shelf.Tests.{le-leb, cond-true, cond-false, eqb-true, eqb-false, and-parts}
+use Rattle.std.proofs.shelf.Tests.{le-leb, cond-true, cond-false, eqb-true, eqb-false}
 use Rattle.policy.specs.declared.refusal.Refusal.{Refusal}
 use Rattle.policy.specs.declared.refusal.Refusal.the-variants.{UnknownStation, Unreachable, RecordOpen, NothingOpen}
-use Rattle.banks.specs.Meanings.{Meaning, inside, known, at-cell, at-row, filled, chosen, record-or-4, read, start, start-at, started, finish, finish-at, finished, mark, marked, located}
-use Rattle.table_banks.specs.Notes.{Noted, noting, fresh, reached, noted-start, noted-finish, noted-mark, noted-place, start-free, finish-open, with-reader, with-mark}
+use Rattle.banks.specs.Meanings.{Meaning, inside, known, at-cell, chosen, record-or-4, read, start, start-at, started, finish, finish-at, finished, mark}
+use Rattle.table_banks.specs.Notes.{Noted, noting, fresh, reached, noted-start, noted-finish, noted-mark, start-free, finish-open, with-reader, with-mark}
 use Rattle.table_banks.specs.Bottoms.{bottom, open-record, filling, making, spare}
 use Rattle.table_banks.proofs.Placing.{known-other}
 use Rattle.table_banks.proofs.Noting.{Within, open-known, reached-ok, start-ok, finish-ok}

@@ -1,21 +1,19 @@
 -- Lemmas on a bank's notes. Assumes nothing.
 use mathlib.Core.Path.{_≡_, refl, sym, ap, _∙_}
 use mathlib.Core.Bool.{Bool, true, false, cond, _&&_}
-use Prim.Native.Nat.{ℕ, zero, suc, _+_, _-_, _*_, _<_, _≤_}
+use Prim.Native.Nat.{ℕ, zero, suc, _-_, _<_, _≤_}
 use lib.Dec.{eqb, leb}
 use lib.ListN.{getD, set, replicate}
 use lib.Seq.{getD-set-same, getD-set-other}
 use mathlib.Core.List.{List, [], _∷_}
-use mathlib.Core.Logic.{_⊎_, inl, inr, ⊎-elim, _≢_}
+use mathlib.Core.Logic.{_⊎_, inl, inr, ⊎-elim}
 use native.Mathlib.Omega.{arith}
-use native.Mathlib.Nat.{mul-comm}
 use lib.ListN.{length}
 use Rattle.banks.proofs.Shared.{cond-map, cond-same, inside-bounds}
-use Rattle.std.proofs.shelf.Tests.{le-leb, and-from, cond-both, cond-true, cond-false, cases-bool, and-parts, leb-true, eqb-true, eqb-false, eq-eqb, ne-eqb}
-use Rattle.std.proofs.shelf.Ways.{tells}
+use Rattle.std.proofs.shelf.Tests.{le-leb, and-from, cond-both, cond-true, cond-false, eqb-true, eqb-false}
 use Rattle.std.specs.declared.option.Option.{Option}
 use Rattle.std.specs.declared.option.Option.the-variants.{None, Some}
-use Rattle.banks.specs.Meanings.{inside, known, at-cell, at-row}
+use Rattle.banks.specs.Meanings.{inside, known}
 use Rattle.table_banks.specs.Cells.{cell}
 use Rattle.banks.specs.Marks.{is-up}
 use Rattle.std.specs.declared.result.Result.{Result}

@@ -2,21 +2,18 @@
 use mathlib.Core.Path.{_≡_, refl, sym, ap, _∙_}
 use mathlib.Core.Bool.{Bool, true, false, cond, _&&_}
 use mathlib.Core.List.{List, [], _∷_}
-use mathlib.Core.Logic.{_⊎_, inl, inr, ⊎-elim}
-use Prim.Native.Nat.{ℕ, zero, suc, _+_, _-_, _*_, _/_, _%_, _<_, _≤_}
+use Prim.Native.Nat.{ℕ, zero, suc, _-_, _*_, _/_, _%_, _<_, _≤_}
 use native.Mathlib.Omega.{arith}
 use native.Mathlib.Nat.{mul-comm, le-refl}
-use lib.Dec.{eqb, leb}
+use lib.Dec.{eqb}
 use lib.ListN.{getD, set, length, drop}
 use lib.Seq.{getD-set-same, getD-set-other}
 use Rattle.banks.proofs.Shared.{inside-bounds}
 use Rattle.std.specs.Finite.{nth}
-use Rattle.std.specs.declared.option.Option.{Option}
-use Rattle.std.specs.declared.option.Option.the-variants.{None, Some}
-use Rattle.std.proofs.shelf.Tests.{and-parts, leb-true, eqb-true, eq-eqb, cond-both, cond-true, and-from, eqb-false, ne-eqb, and-cases, both-ways}
+use Rattle.std.specs.declared.option.Option.the-variants.{Some}
+use Rattle.std.proofs.shelf.Tests.{and-parts, eqb-true, eq-eqb, cond-both, and-from, eqb-false, ne-eqb, both-ways}
 use Rattle.std.proofs.shelf.Lists.{drop-set-lt}
 use Rattle.std.proofs.shelf.Bits.{mul-add-lt, div-mul-add, mod-mul-add}
-use Rattle.std.proofs.shelf.Ways.{tells}
 use Rattle.banks.specs.Meanings.{inside, known}
 use Rattle.table_banks.specs.Cells.{cell}
 

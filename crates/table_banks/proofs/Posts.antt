@@ -2,7 +2,7 @@
 use mathlib.Core.Path.{_≡_, refl, sym, ap, _∙_}
 use mathlib.Core.Bool.{Bool, true, false, cond, _&&_}
 use mathlib.Core.List.{List, _++_}
-use Prim.Native.Nat.{ℕ, _+_, _-_, _*_, _≤_, _<_}
+use Prim.Native.Nat.{ℕ, _≤_, _<_}
 use native.Mathlib.Omega.{arith}
 use native.Mathlib.Nat.{le-refl}
 use lib.Dec.{eqb}
@@ -19,14 +19,13 @@ use Rattle.std.proofs.shelf.Tests.{cond-true, cond-false, ne-eqb, eq-eqb, and-p
 use Rattle.policy.specs.declared.refusal.Refusal.{Refusal}
 use Rattle.banks.specs.Meanings.{Meaning, inside, known, chosen, start, finish, at-cell}
 use Rattle.table_banks.specs.Cells.{cell}
-use Rattle.table_banks.specs.Notes.{Noted, seen, noting, fresh, noted-start, noted-finish}
-use Rattle.table_banks.specs.Bottoms.{bottom, filling}
+use Rattle.table_banks.specs.Notes.{Noted, seen, fresh, noted-start, noted-finish}
+use Rattle.table_banks.specs.Bottoms.{filling}
 use Rattle.table_banks.specs.Posts.{outgoing, post-needs, on-post, post-lines, cell-record, outgoing-record}
-use Rattle.banks.specs.declared.bank.Mark.{Mark}
 use Rattle.table_banks.specs.declared.post.Post.{Post}
 use Rattle.table_banks.proofs.Placing.{known-bounds, cell-below, nth-cell, nth-set, nth-some}
 use Rattle.table_banks.proofs.Tables.{front-line}
-use Rattle.table_banks.proofs.Noting.{Within, start-ok, finish-ok}
+use Rattle.table_banks.proofs.Noting.{start-ok, finish-ok}
 use Rattle.table_banks.proofs.Bottoms.{Held, held-by, fresh-bottom, start-refused, start-done, finish-refused, finish-done}
 
 -- a post answers the settled record

@@ -16,7 +16,7 @@ use Rattle.std.specs.declared.result.Result.the-variants.{Ok, Err}
 use Rattle.policy.specs.declared.refusal.Refusal.{Refusal}
 use Rattle.policy.specs.declared.refusal.Refusal.the-variants.{StationCount, TableSize}
 use Rattle.banks.specs.Meanings.{Meaning, inside, known}
-use Rattle.table_banks.specs.Notes.{Noted, fresh}
+use Rattle.table_banks.specs.Notes.{Noted}
 
 abbrev pub open-record : {R : Type 0} → Option ℕ → (ℕ → Option R) → Option (ℕ × R)
 open-record None o = None

@@ -8,9 +8,8 @@
 --     noted-start k w r               what the start of a record answers and leaves
 --     noted-finish k w                the same of its finish, which answers the reader
 --     noted-mark k w r up             the same of a mark
-use mathlib.Core.Path.{_≡_}
 use mathlib.Core.List.{List}
-use mathlib.Core.Bool.{Bool, true, false, cond, _&&_}
+use mathlib.Core.Bool.{Bool, cond, _&&_}
 use Prim.Native.Nat.{ℕ, _-_}
 use lib.ListN.{getD}
 use Rattle.std.specs.declared.option.Option.{Option}

@@ -2,7 +2,7 @@
 ghost use mathlib.Core.Path.{_≡_};
 ghost use mathlib.Core.List.{_++_};
 ghost use Prim.Native.Nat.{_≤_, _<_};
-ghost use lib.ListN.{replicate, drop, set, length};
+ghost use lib.ListN.{replicate, drop, set};
 ghost use Rattle.std.specs.Finite.{nth};
 ghost use Rattle.std.specs.Of.Vec.{vec-items, vec-len};
 ghost use Rattle.std.specs.declared.option.Option.the-variants.{Some};

@@ -1,6 +1,5 @@
 // The calls on a bank's notes.
 ghost use mathlib.Core.Path.{_≡_};
-ghost use mathlib.Core.Bool.{cond};
 ghost use Prim.Native.Nat.{ℕ};
 ghost use Rattle.std.specs.declared.result.Result.{Result};
 ghost use Rattle.policy.specs.declared.refusal.Refusal.{Refusal};

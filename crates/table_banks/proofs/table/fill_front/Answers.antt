@@ -1,7 +1,7 @@
-use mathlib.Core.Path.{ap, sym, _∙_}
+use mathlib.Core.Path.{ap, _∙_}
 use native.Mathlib.Omega.{arith}
 use lib.ListN.{set}
-use Rattle.std.specs.Of.Vec.{vec-items, vec-len}
+use Rattle.std.specs.Of.Vec.{vec-items}
 use Rattle.table_banks.proofs.Tables.{fill-line-more}
 use Rattle.table_banks.proofs.table.fill_front.Needs as need
 

@@ -1,9 +1,7 @@
-use mathlib.Core.Path.{_≡_, refl, sym, ap, _∙_}
+use mathlib.Core.Path.{sym, ap, _∙_}
 use native.Mathlib.Omega.{arith}
-use borrow.Author.Needs.{needs}
-use Rattle.std.specs.declared.option.Option.the-variants.{None, Some}
+use Rattle.std.specs.declared.option.Option.the-variants.{Some}
 use Rattle.layers.specs.Numberings.{numbering}
-use Rattle.layers.specs.Permutations.{look}
 use Rattle.layers.proofs.Permuting.{Found, found-look, found-listed, listed-true, listed-false}
 use Rattle.layers.proofs.permutation.Permutation.from_list.Needs as need
 

@@ -1,4 +1,4 @@
-use mathlib.Core.Path.{_≡_, refl, sym, ap, _∙_}
+use mathlib.Core.Path.{refl, ap, _∙_}
 use Rattle.layers.specs.Layers.{renumbered}
 use Rattle.layers.specs.Permutations.{look}
 use Rattle.layers.specs.Renumberings.{fitting, number-below, position-above}

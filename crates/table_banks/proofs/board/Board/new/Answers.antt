@@ -1,12 +1,10 @@
-use mathlib.Core.Path.{_≡_, sym, ap, _∙_}
-use mathlib.Core.Bool.{true}
+use mathlib.Core.Path.{sym, ap, _∙_}
 use Prim.Native.Nat.{_*_, _≤_}
 use native.Mathlib.Omega.{arith}
 use lib.ListN.{length, drop}
 use Rattle.std.specs.Of.Vec.{vec-items}
 use Rattle.std.specs.declared.result.Result.the-variants.{Ok}
-use Rattle.banks.specs.Meanings.{inside}
-use Rattle.table_banks.specs.Notes.{Noted, fresh, seen}
+use Rattle.table_banks.specs.Notes.{seen}
 use Rattle.table_banks.specs.Boards.{on-board}
 use Rattle.table_banks.specs.Bottoms.{spare, filling}
 use Rattle.table_banks.proofs.Noting.{new-ok}

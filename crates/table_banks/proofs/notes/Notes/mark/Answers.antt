@@ -3,10 +3,9 @@ use mathlib.Core.Bool.{true}
 use native.Mathlib.Omega.{arith}
 use borrow.Author.Needs.{needs}
 use Rattle.std.proofs.shelf.Tests.{cond-true}
-use Rattle.std.specs.declared.result.Result.the-variants.{Ok, Err}
+use Rattle.std.specs.declared.result.Result.the-variants.{Ok}
 use Rattle.banks.specs.Meanings.{known}
 use Rattle.table_banks.specs.Notes.{noting}
-use Rattle.table_banks.specs.Cells.{cell}
 use lib.ListN.{set}
 use Rattle.table_banks.proofs.Noting.{noting-mark}
 use Rattle.table_banks.proofs.notes.Notes.mark.Needs as need

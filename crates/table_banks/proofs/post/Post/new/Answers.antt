@@ -1,13 +1,11 @@
 use mathlib.Core.Path.{_≡_, sym, ap, _∙_}
-use mathlib.Core.Bool.{true}
 use Prim.Native.Nat.{_≤_}
 use native.Mathlib.Omega.{arith}
 use mathlib.Core.List.{_++_}
 use lib.ListN.{length, drop, replicate}
 use Rattle.std.specs.Of.Vec.{vec-items}
 use Rattle.std.specs.declared.result.Result.the-variants.{Ok}
-use Rattle.banks.specs.Meanings.{inside}
-use Rattle.table_banks.specs.Notes.{Noted, fresh, seen}
+use Rattle.table_banks.specs.Notes.{seen}
 use Rattle.table_banks.specs.Posts.{on-post, post-needs}
 use Rattle.table_banks.specs.Bottoms.{spare, filling}
 use Rattle.table_banks.proofs.Noting.{new-ok}

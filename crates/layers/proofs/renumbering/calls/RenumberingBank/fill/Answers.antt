@@ -1,5 +1,5 @@
-use mathlib.Core.Path.{_≡_, refl, sym, ap, _∙_}
-use mathlib.Core.Bool.{true, false}
+use mathlib.Core.Path.{sym, ap, _∙_}
+use mathlib.Core.Bool.{true}
 use Rattle.std.proofs.shelf.Tests.{true≢false}
 use Rattle.layers.specs.Layers.{renumbered}
 use Rattle.layers.specs.Renumberings.{number-below, position-above}

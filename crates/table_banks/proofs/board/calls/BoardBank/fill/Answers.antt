@@ -1,9 +1,8 @@
-use mathlib.Core.Path.{_≡_, refl, sym, ap, _∙_}
+use mathlib.Core.Path.{_≡_, ap, _∙_}
 use mathlib.Core.List.{_++_}
 use Prim.Native.Nat.{_*_}
 use lib.ListN.{drop, replicate}
 use Rattle.std.specs.Of.Vec.{vec-items}
-use Rattle.table_banks.specs.Notes.{seen}
 use Rattle.table_banks.specs.Boards.{board-lines, on-board}
 use Rattle.table_banks.proofs.Tables.{behind-front}
 use Rattle.table_banks.proofs.Boards.{board-filled}

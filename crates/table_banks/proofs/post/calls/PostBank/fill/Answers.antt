@@ -1,8 +1,7 @@
-use mathlib.Core.Path.{_≡_, refl, sym, ap, _∙_}
+use mathlib.Core.Path.{_≡_, ap, _∙_}
 use mathlib.Core.List.{_++_}
 use lib.ListN.{drop, replicate}
 use Rattle.std.specs.Of.Vec.{vec-items}
-use Rattle.table_banks.specs.Notes.{seen}
 use Rattle.table_banks.specs.Posts.{post-lines, post-needs, on-post}
 use Rattle.table_banks.proofs.Tables.{behind-front}
 use Rattle.table_banks.proofs.Posts.{post-filled}

@@ -1,18 +1,14 @@
-use mathlib.Core.Path.{_≡_, refl, sym, ap, _∙_}
-use mathlib.Core.Bool.{true}
-use Prim.Native.Nat.{_*_, _≤_, _<_}
-use lib.ListN.{length, set, drop}
+use mathlib.Core.Path.{_≡_, sym, ap, _∙_}
+use lib.ListN.{set, drop}
 use Rattle.std.specs.Finite.{nth}
-use Rattle.std.specs.Of.Vec.{vec-items, vec-len}
-use Rattle.std.specs.declared.option.Option.the-variants.{None, Some}
+use Rattle.std.specs.declared.option.Option.the-variants.{Some}
 use Rattle.std.specs.declared.result.Result.the-variants.{Ok, Err}
 use Rattle.std.proofs.shelf.Results.{err-from-errBy}
-use Rattle.banks.specs.Meanings.{known}
 use Rattle.table_banks.specs.Cells.{cell}
 use Rattle.table_banks.specs.Notes.{seen}
 use Rattle.table_banks.specs.Posts.{outgoing, post-needs, post-lines, on-post}
 use Rattle.table_banks.proofs.Noting.{finish-ok, finish-count}
-use Rattle.table_banks.proofs.Posts.{post-room, post-open, post-cell, post-outgoing, post-start-refused, post-start-done, post-finish-refused, post-finish-done, drop-line, outgoing-below, home-inside}
+use Rattle.table_banks.proofs.Posts.{post-room, post-open, post-cell, post-outgoing, post-finish-refused, post-finish-done, drop-line}
 use Rattle.table_banks.proofs.post.calls.PostBank.finish.Needs as need
 
 pub returns-in-Break-reader : need.returns-in-Break-reader

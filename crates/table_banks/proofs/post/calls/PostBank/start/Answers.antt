@@ -1,18 +1,11 @@
-use mathlib.Core.Path.{_≡_, refl, sym, ap, _∙_}
-use mathlib.Core.Bool.{true}
-use Prim.Native.Nat.{_*_, _≤_, _<_}
-use lib.ListN.{length, set, drop}
-use Rattle.std.specs.Finite.{nth}
-use Rattle.std.specs.Of.Vec.{vec-items, vec-len}
-use Rattle.std.specs.declared.option.Option.the-variants.{None, Some}
+use mathlib.Core.Path.{ap, _∙_}
+use lib.ListN.{set, drop}
 use Rattle.std.specs.declared.result.Result.the-variants.{Ok, Err}
 use Rattle.std.proofs.shelf.Results.{err-from-errBy}
-use Rattle.banks.specs.Meanings.{known}
-use Rattle.table_banks.specs.Cells.{cell}
 use Rattle.table_banks.specs.Notes.{seen}
 use Rattle.table_banks.specs.Posts.{outgoing, post-needs, post-lines, on-post}
 use Rattle.table_banks.proofs.Noting.{start-ok, start-count}
-use Rattle.table_banks.proofs.Posts.{post-room, post-open, post-cell, post-outgoing, post-start-refused, post-start-done, post-finish-refused, post-finish-done, drop-line, outgoing-below, home-inside}
+use Rattle.table_banks.proofs.Posts.{post-room, post-open, post-outgoing, post-start-refused, post-start-done, drop-line, outgoing-below, home-inside}
 use Rattle.table_banks.proofs.post.calls.PostBank.start.Needs as need
 
 pub returns-in-Break-start : need.returns-in-Break-start
