@@ -1,14 +1,18 @@
 // The steps of an operation.
 ghost use mathlib.Core.Path.{_≡_};
 ghost use mathlib.Core.Bool.{Bool};
+ghost use mathlib.Core.List.{List};
 ghost use denote.Ref.{name};
-ghost use Prim.Native.Nat.{ℕ, _+_, _*_, _≤_, _<_};
+ghost use Prim.Native.Nat.{ℕ, _+_, _*_, _-_, _≤_, _<_};
+ghost use lib.ListN.{set};
 ghost use Rattle.std.specs.declared.result.Result.{Result};
 ghost use Rattle.policy.specs.declared.refusal.Refusal.{Refusal};
 ghost use Rattle.banks.specs.Meanings.{Meaning};
 ghost use Rattle.banks.specs.declared.record.Record.{Record};
-ghost use Rattle.machine.specs.Machines.{Machine, row-of};
-ghost use Rattle.machine.specs.Steps.{step as steps, step-stage, stamp-write, spread-to};
+ghost use Rattle.machine.specs.Machines.{Machine, row-of, next-machine};
+ghost use Rattle.machine.specs.Steps.{step as steps, step-stage, stamp-write, spread-to, in-state};
+ghost use Rattle.machine.specs.declared.line.Line.{Line};
+ghost use Rattle.machine.specs.declared.line.LineState.the-variants.{Spreading};
 ghost use Rattle.machine.specs.declared.row.Row.the-variants.{Busy};
 ghost use Rattle.machine.specs.declared.row.Stepped.{Stepped};
 ghost use Rattle.register.specs.Reach.{Leads};
@@ -84,14 +88,12 @@ impl<S: Stamp, V: Copy> Register<S, V> {
             }
             (Stage::Stamping, Kind::Read) => {
                 let line = collect(bank, progress as u8 + 1, station, line)?;
-                let state = LineState::Spreading;
-                journal.put(number, Line { state, ..line });
-                self.go_on(station, number, progress);
+                self.stamp_read(journal, station, number, progress, line);
                 Ok(Stepped::Going)
             }
             (Stage::Stamping, Kind::Write) => {
                 let line = collect(bank, progress as u8 + 1, station, line)?;
-                self.stamp(journal, station, number, progress, line)
+                self.stamp_write(journal, station, number, progress, line)
             }
             (Stage::Starting, _) => {
                 let reader = spread_to(station, (progress as u8 - self.stations) / 2);
@@ -122,8 +124,30 @@ impl<S: Stamp, V: Copy> Register<S, V> {
         }
     }
 
+    // Stamps a read that has collected, with the greatest stamp it met. It now spreads that stamp and its value.
+    fn stamp_read(
+        &mut self,
+        journal: &mut Journal<'_, Line<S, V>>,
+        station: u8,
+        number: u64,
+        progress: u64,
+        line: Line<S, V>,
+    )
+        requires some { ⌜ 1 ≤ station ⌝ }
+        requires known { ⌜ station ≤ now self .stations ⌝ }
+        requires busy { ⌜ row-of (now self .table .rows) station ≡ Busy number progress ⌝ }
+        requires before { ⌜ progress + 1 < 3 * now self .stations ⌝ }
+        ensures row { λ _. ⌜ ((bank : Meaning (Record S V)) (lines : List (Line S V)) → seen (now (self .exit)) bank lines ≡ next-machine (seen (now (self .entry)) bank lines) bank lines (now (self .entry) .used) station (Busy number (progress + 1))) ⌝ }
+        ensures after { λ _. ⌜ now (now (journal .exit) .lines) ≡ set (now (now (journal .entry) .lines)) (number - 1) (in-state line Spreading) ⌝ }
+        ensures lender { λ _. ⌜ name (now (journal .exit) .lines) ≡ name (now (journal .entry) .lines) ⌝ }
+    {
+        let state = LineState::Spreading;
+        journal.put(number, Line { state, ..line });
+        self.go_on(station, number, progress);
+    }
+
     // Stamps a write that has collected, or ends it where the greatest stamp it met is spent.
-    fn stamp(
+    fn stamp_write(
         &mut self,
         journal: &mut Journal<'_, Line<S, V>>,
         station: u8,

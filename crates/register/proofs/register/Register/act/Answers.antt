@@ -98,8 +98,8 @@ returns-in-Continue-line-2 g c =
     let choice = g .B·Bank .chooses (c .args .bank .now) (c .args .progress + 1) (c .args .station) in
     let last : c .args .progress + 1 ≡ r .stations = search needs in
     record {
-      call = ap (λ (N : Machine (g .S .Denot) (g .V .Denot)). (Ok Going, N)) (moved r (c .go-on-in-Stamping-Read .last .self) bank _ lines _ _ (c .args .station) _ (c .go-on-in-Stamping-Read .ensures) (c .put-in-Stamping-Read .ensures .after)) ∙ read-tied m (seen r bank lines) choice (c .args .station) (c .args .number) (c .args .progress) (c .args .line) _ (c .in-Continue-line-2 .line) last (c .in-Stamping-Read .is-1) (c .in-Continue-line-2 .ensures tt);
-      lender = c .put-in-Stamping-Read .ensures .lender;
+      call = ap (λ (N : Machine (g .S .Denot) (g .V .Denot)). (Ok Going, N)) (moved r (c .stamp-read .last .self) bank _ lines _ _ (c .args .station) _ (c .stamp-read .ensures .row) (c .stamp-read .ensures .after)) ∙ read-tied m (seen r bank lines) choice (c .args .station) (c .args .number) (c .args .progress) (c .args .line) _ (c .in-Continue-line-2 .line) last (c .in-Stamping-Read .is-1) (c .in-Continue-line-2 .ensures tt);
+      lender = c .stamp-read .ensures .lender;
     }
 
 pub returns-in-Continue-spread : need.returns-in-Continue-spread

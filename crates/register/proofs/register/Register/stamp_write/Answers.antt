@@ -8,7 +8,7 @@ use Rattle.machine.specs.Steps.{stamp-write}
 use Rattle.machine.specs.declared.row.Stepped.the-variants.{Going}
 use Rattle.register.specs.Seen.{seen}
 use Rattle.register.proofs.Ties.{moved, next-taken}
-use Rattle.register.proofs.register.Register.stamp.Needs as need
+use Rattle.register.proofs.register.Register.stamp_write.Needs as need
 
 pub returns-in-Some : need.returns-in-Some
 returns-in-Some g c =
