@@ -1,0 +1,7 @@
+//! The second replay, written from the documents and apart from the proved sources: plain Rust, no dependency.
+
+pub mod account;
+pub mod cells;
+pub mod register;
+#[cfg(test)]
+mod worked;
