@@ -80,8 +80,10 @@ fn at_limit() -> [Vec<u8>; 3] {
 pub fn fixed() -> Vec<Vec<u8>> {
     let one = in_turn(0, 1, 0);
     let mut files: Vec<Vec<u8>> = (0..=one.len()).map(|length| one[..length].to_vec()).collect();
-    files.extend((0..=255).map(|byte| vec![byte]));
-    files.extend((0..=255).map(|kind| made(kind, 17 - kind % 18)));
+    files.extend([0, 1, 2, 3, 4, 5, 6, 7, 8, 255].map(|byte| vec![byte]));
+    for kind in [0, 1, 2, 255] {
+        files.extend([0, 1, 16, 17, 255].map(|stations| made(kind, stations)));
+    }
     for kind in [0, 1] {
         files.extend((1..=16).map(|stations| in_turn(kind, stations, 0)));
         files.extend((0..4).map(|below| in_turn(kind, 3, u32::MAX - below)));

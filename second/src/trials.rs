@@ -2,6 +2,7 @@
 
 mod figures;
 mod files;
+mod longest;
 mod random;
 mod runs;
 mod script;
@@ -12,13 +13,16 @@ use std::path::{Path, PathBuf};
 use std::process::{Command, ExitCode, Stdio};
 use std::sync::atomic::{AtomicU64, Ordering};
 use std::thread;
+use std::time::{Duration, Instant};
 
 use figures::Figures;
 use second::account::play;
 
 const USAGE: &str = "usage: trials compare COUNT PROGRAM FOLDER [FIRST SEED]
        trials generate SEED
-       trials batch COUNT";
+       trials batch COUNT
+       trials longest NAME
+       trials time FILE RUNS PROGRAM ..";
 
 /// The n-th file of a trial, from 0: first the written ones, then one for each seed.
 fn nth(fixed: &[Vec<u8>], first_seed: u64, n: u64) -> Vec<u8> {
@@ -115,6 +119,28 @@ fn batch(count: u64) -> io::Result<()> {
     out.flush()
 }
 
+/// Runs programs on a file in turn, and prints the least and the middle time of each in milliseconds.
+fn time(file: &str, runs: u64, programs: &[&str]) -> io::Result<()> {
+    let mut times: Vec<Vec<Duration>> = vec![Vec::new(); programs.len()];
+    for _ in 0..runs {
+        for (program, times) in programs.iter().zip(&mut times) {
+            let begin = Instant::now();
+            let mut command = Command::new(program);
+            let status = command.stdin(File::open(file)?).stdout(Stdio::null()).stderr(Stdio::null()).status()?;
+            times.push(begin.elapsed());
+            if !status.success() {
+                return Err(io::Error::other(format!("{program}: {status}")));
+            }
+        }
+    }
+    for times in &mut times {
+        times.sort();
+        let milliseconds = |at: usize| times[at].as_secs_f64() * 1000.0;
+        println!("{:.3} {:.3}", milliseconds(0), milliseconds(times.len() / 2));
+    }
+    Ok(())
+}
+
 fn run(arguments: &[&str]) -> io::Result<bool> {
     let number = |text: &str| text.parse::<u64>().map_err(|_| io::Error::other(format!("not a number: {text}")));
     match *arguments {
@@ -128,6 +154,11 @@ fn run(arguments: &[&str]) -> io::Result<bool> {
         }
         ["generate", seed] => io::stdout().write_all(&files::seeded(number(seed)?)).map(|()| true),
         ["batch", count] => batch(number(count)?).map(|()| true),
+        ["longest", name] => match longest::file(name) {
+            Some(file) => io::stdout().write_all(&file).map(|()| true),
+            None => Err(io::Error::other(format!("no longest file {name}"))),
+        },
+        ["time", file, runs, ref programs @ ..] => time(file, number(runs)?.max(1), programs).map(|()| true),
         _ => Err(io::Error::other(USAGE)),
     }
 }
