@@ -3,6 +3,7 @@
 use std::fmt;
 
 use second::account::{Outcome, Player};
+use second::law;
 use second::register::{Kind, State};
 
 #[derive(Clone, Default)]
@@ -24,6 +25,8 @@ pub struct Figures {
     pub full: u64,
     /// Files by the number of stations of their register; at 0 those without one.
     pub stations: [u64; 17],
+    /// Journals of the second program that break the law of the stamps.
+    pub unlawful: u64,
     pub differences: u64,
 }
 
@@ -49,6 +52,7 @@ impl Figures {
         };
         self.stations[usize::from(register.stations())] += 1;
         self.full += u64::from(register.journal().len() == second::register::JOURNAL_LINES);
+        self.unlawful += u64::from(!law::kept(register.start(), register.journal()));
         for line in register.journal() {
             match (line.state, line.kind) {
                 (State::Done, Kind::Write) => self.writes += 1,
@@ -72,6 +76,7 @@ impl Figures {
         self.spent += other.spent;
         self.left += other.left;
         self.full += other.full;
+        self.unlawful += other.unlawful;
         self.differences += other.differences;
         let arrays = [(&mut self.refused[..], &other.refused[..]), (&mut self.stations[..], &other.stations[..])];
         for (mine, others) in arrays {
@@ -106,6 +111,7 @@ impl fmt::Display for Figures {
                 n => row(&format!("files with {n} station{}", if n == 1 { "" } else { "s" }), *files)?,
             }
         }
+        row("journals that break the law of the stamps", self.unlawful)?;
         row("differences", self.differences)
     }
 }

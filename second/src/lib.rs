@@ -2,6 +2,7 @@
 
 pub mod account;
 pub mod cells;
+pub mod law;
 pub mod register;
 #[cfg(test)]
 mod worked;

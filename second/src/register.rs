@@ -87,6 +87,10 @@ impl Register {
         self.bank.stations()
     }
 
+    pub fn start(&self) -> Record {
+        self.start
+    }
+
     pub fn journal(&self) -> &[Line] {
         &self.journal
     }

@@ -150,7 +150,7 @@ fn run(arguments: &[&str]) -> io::Result<bool> {
             let bench = Bench { program: &program, folder: &folder };
             let figures = bench.compare(number(count)?, seed.first().map_or(Ok(1), |seed| number(seed))?)?;
             print!("{figures}");
-            Ok(figures.differences == 0)
+            Ok(figures.differences == 0 && figures.unlawful == 0)
         }
         ["generate", seed] => io::stdout().write_all(&files::seeded(number(seed)?)).map(|()| true),
         ["batch", count] => batch(number(count)?).map(|()| true),
