@@ -65,14 +65,7 @@ fn at_limit() -> [Vec<u8>; 3] {
         script.write(1, 9);
         script.mark(1, 1, false);
     });
-    assert_eq!(exact.len(), LIMIT);
-    let over = written(|script| {
-        makes(script, 5957);
-        script.write(1, 9);
-        script.mark(1, 1, false);
-        script.list();
-        script.step(1);
-    });
+    let over = [&exact[..], &[7, 4, 1]].concat();
     [exact, over, written(|script| makes(script, 5958))]
 }
 
@@ -143,7 +136,7 @@ fn noise(random: &mut Random) -> Vec<u8> {
     file
 }
 
-/// A run that fills the journal, if it has few stations even with many turns to spare.
+/// A run of 530 opens, which fills the journal unless its size ends it before.
 fn long(random: &mut Random) -> Vec<u8> {
     let n = random.pick(&[1, 2, 3, 5, 8, 12, 16]);
     let plan = Plan::new(random, n, 530);

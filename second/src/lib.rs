@@ -1,4 +1,4 @@
-//! The second replay, written from the documents and apart from the proved sources: plain Rust, no dependency.
+//! The second replay, written from the rules in words and apart from the proved sources: plain Rust, no dependency.
 
 pub mod account;
 pub mod cells;
