@@ -18,7 +18,8 @@ pub struct Journal<'a, L> {
 
 impl<'a, L: Copy> Journal<'a, L> {
     pub fn new(lines: &'a mut [L]) -> Journal<'a, L>
-        ensures { λ r. ⌜ now (r .lines) ≡ now (lines .entry) ⌝ }
+        ensures value { λ r. ⌜ now (r .lines) ≡ now (lines .entry) ⌝ }
+        ensures lender { λ r. ⌜ name (r .lines) ≡ name (lines .entry) ⌝ }
     {
         Journal { lines }
     }
@@ -38,13 +39,7 @@ impl<'a, L: Copy> Journal<'a, L> {
     pub fn line(&self, number: u64) -> Option<L>
         ensures { λ r. ⌜ r ≡ nth (now (now (self .entry) .lines)) (number - 1) ⌝ }
     {
-        let lines = &*self.lines;
-        let at = number.saturating_sub(1) as usize;
-        if at < lines.len() {
-            Some(lines[at])
-        } else {
-            None
-        }
+        copy_at(&*self.lines, number.saturating_sub(1) as usize)
     }
 
     // Replaces the line with that number; nothing changes where there is none.
@@ -56,5 +51,16 @@ impl<'a, L: Copy> Journal<'a, L> {
         if at < self.lines.len() {
             self.lines[at] = line;
         }
+    }
+}
+
+// What stands at a place, from 0.
+fn copy_at<L: Copy>(lines: &[L], at: usize) -> Option<L>
+    ensures { λ r. ⌜ r ≡ nth (now (lines .entry)) at ⌝ }
+{
+    if at < lines.len() {
+        Some(lines[at])
+    } else {
+        None
     }
 }

@@ -124,26 +124,26 @@ impl<S: Stamp, V: Copy> Register<S, V> {
         }
     }
 
-    // Stamps a read that has collected, with the greatest stamp it met. It now spreads that stamp and its value.
+    // Stamps a read that has collected, with the greatest stamp it met. Its station, the reader, now spreads that stamp and its value.
     fn stamp_read(
         &mut self,
         journal: &mut Journal<'_, Line<S, V>>,
-        station: u8,
+        reader: u8,
         number: u64,
         progress: u64,
         line: Line<S, V>,
     )
-        requires some { ⌜ 1 ≤ station ⌝ }
-        requires known { ⌜ station ≤ now self .stations ⌝ }
-        requires busy { ⌜ row-of (now self .table .rows) station ≡ Busy number progress ⌝ }
+        requires some { ⌜ 1 ≤ reader ⌝ }
+        requires known { ⌜ reader ≤ now self .stations ⌝ }
+        requires busy { ⌜ row-of (now self .table .rows) reader ≡ Busy number progress ⌝ }
         requires before { ⌜ progress + 1 < 3 * now self .stations ⌝ }
-        ensures row { λ _. ⌜ ((bank : Meaning (Record S V)) (lines : List (Line S V)) → seen (now (self .exit)) bank lines ≡ next-machine (seen (now (self .entry)) bank lines) bank lines (now (self .entry) .used) station (Busy number (progress + 1))) ⌝ }
+        ensures row { λ _. ⌜ ((bank : Meaning (Record S V)) (lines : List (Line S V)) → seen (now (self .exit)) bank lines ≡ next-machine (seen (now (self .entry)) bank lines) bank lines (now (self .entry) .used) reader (Busy number (progress + 1))) ⌝ }
         ensures after { λ _. ⌜ now (now (journal .exit) .lines) ≡ set (now (now (journal .entry) .lines)) (number - 1) (in-state line Spreading) ⌝ }
         ensures lender { λ _. ⌜ name (now (journal .exit) .lines) ≡ name (now (journal .entry) .lines) ⌝ }
     {
         let state = LineState::Spreading;
         journal.put(number, Line { state, ..line });
-        self.go_on(station, number, progress);
+        self.go_on(reader, number, progress);
     }
 
     // Stamps a write that has collected, or ends it where the greatest stamp it met is spent.

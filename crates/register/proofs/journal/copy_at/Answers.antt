@@ -1,6 +1,6 @@
 use borrow.Author.Needs.{needs}
 use Rattle.std.proofs.shelf.Maps.{nth-read, nth-past}
-use Rattle.register.proofs.journal.Journal.line.Needs as need
+use Rattle.register.proofs.journal.copy_at.Needs as need
 
 pub returns-then-at-lines : need.returns-then-at-lines
 returns-then-at-lines g c = search (needs, nth-read)
