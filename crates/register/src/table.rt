@@ -27,9 +27,9 @@ impl Table {
     pub fn row(&self, station: u8) -> Row
         ensures { λ r. ⌜ r ≡ row-of (now (self .entry) .rows) station ⌝ }
     {
-        let at = station.saturating_sub(1) as usize;
-        if at < self.rows.len() {
-            self.rows[at]
+        let i = station.saturating_sub(1) as usize;
+        if i < self.rows.len() {
+            self.rows[i]
         } else {
             Row::Idle
         }
