@@ -25,7 +25,11 @@ impl Stage {
     {
         let n = stations as u64;
         if progress < n {
-            if progress + 1 == n { Stage::Stamping } else { Stage::Collecting }
+            if progress + 1 == n {
+                Stage::Stamping
+            } else {
+                Stage::Collecting
+            }
         } else if (progress - n) % 2 == 0 {
             Stage::Starting
         } else if progress < 3 * n && 3 * n - progress == 1 {

@@ -28,7 +28,11 @@ impl Table {
         ensures { λ r. ⌜ r ≡ row-of (now (self .entry) .rows) station ⌝ }
     {
         let at = station.saturating_sub(1) as usize;
-        if at < self.rows.len() { self.rows[at] } else { Row::Idle }
+        if at < self.rows.len() {
+            self.rows[at]
+        } else {
+            Row::Idle
+        }
     }
 
     // Puts a station at the beginning of the operation with that line.

@@ -73,42 +73,70 @@ impl<S: Stamp, V: Copy> Register<S, V> {
         ensures call { λ a. ⌜ _≡_ {A = Result (Stepped S V) Refusal × Machine S V} (a, seen (now (self .exit)) (B·Bank .meaning (now (bank .exit))) (now (now (journal .exit) .lines))) (step-stage (S·Stamp .make) (seen (now (self .entry)) (B·Bank .meaning (now (bank .entry))) (now (now (journal .entry) .lines))) (B·Bank .chooses (now (bank .entry)) (progress + 1) station) station number progress line) ⌝ }
         ensures lender { λ _. ⌜ name (now (journal .exit) .lines) ≡ name (now (journal .entry) .lines) ⌝ }
     {
-        match (Stage::at(progress, self.stations), line.kind) {
-            (Stage::Collecting, _) => {
-                let line = collect(bank, progress as u8 + 1, station, line)?;
-                journal.put(number, line);
-                self.go_on(station, number, progress);
-                Ok(Stepped::Going)
+        match Stage::at(progress, self.stations) {
+            Stage::Collecting | Stage::Stamping => {
+                self.read_on(bank, journal, station, number, progress, line)
             }
-            (Stage::Stamping, Kind::Read) => {
-                let line = collect(bank, progress as u8 + 1, station, line)?;
-                let state = LineState::Spreading;
-                journal.put(number, Line { state, ..line });
-                self.go_on(station, number, progress);
-                Ok(Stepped::Going)
-            }
-            (Stage::Stamping, Kind::Write) => {
-                let line = collect(bank, progress as u8 + 1, station, line)?;
-                self.stamp(journal, station, number, progress, line)
-            }
-            (Stage::Starting, _) => {
+            Stage::Starting => {
                 let reader = spread_to(station, (progress as u8 - self.stations) / 2);
                 spread(bank, station, reader, &line)?;
                 self.go_on(station, number, progress);
                 Ok(Stepped::Going)
             }
-            (Stage::Finishing, _) => {
+            Stage::Finishing => {
                 bank.finish(station)?;
                 self.go_on(station, number, progress);
                 Ok(Stepped::Going)
             }
-            (Stage::Ending, _) => {
+            Stage::Ending => {
                 bank.finish(station)?;
                 let state = LineState::Done;
                 let ended = self.moment + 1;
-                journal.put(number, Line { state, ended, ..line });
+                journal.put(
+                    number,
+                    Line {
+                        state,
+                        ended,
+                        ..line
+                    },
+                );
                 self.end(station, number, progress);
                 Ok(Stepped::Done(line.stamp, line.value))
+            }
+        }
+    }
+
+    // A step that reads a cell; the last of them stamps the operation. It is called from one place, and so is collect, which lets the compiler inline both.
+    fn read_on<B: Bank<Record<S, V>>>(
+        &mut self,
+        bank: &mut B,
+        journal: &mut Journal<'_, Line<S, V>>,
+        station: u8,
+        number: u64,
+        progress: u64,
+        line: Line<S, V>,
+    ) -> Result<Stepped<S, V>, Refusal>
+        requires some { ⌜ 1 ≤ station ⌝ }
+        requires known { ⌜ station ≤ now self .stations ⌝ }
+        requires busy { ⌜ row-of (now self .table .rows) station ≡ Busy number progress ⌝ }
+        requires early { ⌜ progress < now self .stations ⌝ }
+        ensures call { λ a. ⌜ _≡_ {A = Result (Stepped S V) Refusal × Machine S V} (a, seen (now (self .exit)) (B·Bank .meaning (now (bank .exit))) (now (now (journal .exit) .lines))) (step-stage (S·Stamp .make) (seen (now (self .entry)) (B·Bank .meaning (now (bank .entry))) (now (now (journal .entry) .lines))) (B·Bank .chooses (now (bank .entry)) (progress + 1) station) station number progress line) ⌝ }
+        ensures lender { λ _. ⌜ name (now (journal .exit) .lines) ≡ name (now (journal .entry) .lines) ⌝ }
+    {
+        let kind = line.kind;
+        let line = collect(bank, progress as u8 + 1, station, line)?;
+        match (Stage::at(progress, self.stations), kind) {
+            (Stage::Stamping, Kind::Read) => {
+                let state = LineState::Spreading;
+                journal.put(number, Line { state, ..line });
+                self.go_on(station, number, progress);
+                Ok(Stepped::Going)
+            }
+            (Stage::Stamping, Kind::Write) => self.stamp(journal, station, number, progress, line),
+            (_, _) => {
+                journal.put(number, line);
+                self.go_on(station, number, progress);
+                Ok(Stepped::Going)
             }
         }
     }
@@ -132,14 +160,28 @@ impl<S: Stamp, V: Copy> Register<S, V> {
         match line.stamp.next(station) {
             Some(stamp) => {
                 let state = LineState::Spreading;
-                journal.put(number, Line { stamp, state, ..line });
+                journal.put(
+                    number,
+                    Line {
+                        stamp,
+                        state,
+                        ..line
+                    },
+                );
                 self.go_on(station, number, progress);
                 Ok(Stepped::Going)
             }
             None => {
                 let state = LineState::Spent;
                 let ended = self.moment + 1;
-                journal.put(number, Line { state, ended, ..line });
+                journal.put(
+                    number,
+                    Line {
+                        state,
+                        ended,
+                        ..line
+                    },
+                );
                 self.end(station, number, progress);
                 Err(Refusal::Spent)
             }

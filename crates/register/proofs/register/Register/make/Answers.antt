@@ -31,8 +31,8 @@ returns g c =
     let same : n ≡ bank .stations = search needs in
     let long : size ≤ length lines = search needs in
     let is =
-        founded m bank n k v lines size (c .in-Some .tag) few same (c .in-Some .ensures tt) (c .if-size-gt-LINES .left) long
-        ∙ founded-as m bank n k v lines size (c .in-Some .tag) _ _ (c .fill .ensures) (c .new .ensures) in
+    founded m bank n k v lines size (c .in-Some .tag) few same (c .in-Some .ensures tt) (c .if-size-gt-LINES .left) long
+    ∙ founded-as m bank n k v lines size (c .in-Some .tag) _ _ (c .fill .ensures) (c .new .ensures) in
     record {
       call = sym (ap (left-by bank) is);
       law = (

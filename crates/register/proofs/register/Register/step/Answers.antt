@@ -34,8 +34,8 @@ returns g c =
     let f = g .B·Bank .chooses (c .args .bank .now) in
     let s = c .args .station in
     let call =
-        c .act .ensures .call
-        ∙ sym (stepping m M f s _ _ (c .in-Some .line) (c .in-Continue-holds .ensures tt) (c .in-Continue-known .ensures tt) (c .in-Busy .ensures tt) (c .in-Some .ensures tt)) in
+    c .act .ensures .call
+    ∙ sym (stepping m M f s _ _ (c .in-Some .line) (c .in-Continue-holds .ensures tt) (c .in-Continue-known .ensures tt) (c .in-Busy .ensures tt) (c .in-Some .ensures tt)) in
     record {
       call = call;
       reached = reaching m _ _ (step-call s (choice-at f s (row-of (r .table .rows) s))) (sym (ap (λ p. p .1) call));
