@@ -55,35 +55,35 @@ impl Board {
         if station >= 1 && station <= self.stations { Ok(()) } else { Err(Refusal::UnknownStation) }
     }
 
-    fn reach(&mut self, writer: u8, reader: u8) -> Result<&mut Cell, Refusal> {
+    fn reach(&self, writer: u8, reader: u8) -> Result<usize, Refusal> {
         self.known(writer)?;
         self.known(reader)?;
         let at = usize::from(writer - 1) * usize::from(self.stations) + usize::from(reader - 1);
-        let cell = &mut self.cells[at];
-        if cell.up { Ok(cell) } else { Err(Refusal::Unreachable((0, writer, reader))) }
+        if self.cells[at].up { Ok(at) } else { Err(Refusal::Unreachable((0, writer, reader))) }
     }
 
-    fn read(&mut self, writer: u8, reader: u8) -> Result<Record, Refusal> {
-        let cell = *self.reach(writer, reader)?;
+    fn read(&self, writer: u8, reader: u8) -> Result<Record, Refusal> {
+        let cell = &self.cells[self.reach(writer, reader)?];
         let open = self.readers[usize::from(writer - 1)] == Some(reader);
         Ok(if open { cell.opened } else { cell.settled })
     }
 
     fn start(&mut self, writer: u8, reader: u8, x: Record) -> Result<(), Refusal> {
-        self.reach(writer, reader)?;
-        if self.readers[usize::from(writer - 1)].is_some() {
+        let at = self.reach(writer, reader)?;
+        let open = &mut self.readers[usize::from(writer - 1)];
+        if open.is_some() {
             return Err(Refusal::RecordOpen);
         }
-        self.readers[usize::from(writer - 1)] = Some(reader);
-        self.reach(writer, reader)?.opened = x;
+        *open = Some(reader);
+        self.cells[at].opened = x;
         Ok(())
     }
 
     fn finish(&mut self, writer: u8) -> Result<(), Refusal> {
         self.known(writer)?;
         let reader = self.readers[usize::from(writer - 1)].ok_or(Refusal::NothingOpen)?;
-        let cell = self.reach(writer, reader)?;
-        cell.settled = cell.opened;
+        let at = self.reach(writer, reader)?;
+        self.cells[at].settled = self.cells[at].opened;
         self.readers[usize::from(writer - 1)] = None;
         Ok(())
     }
