@@ -11,13 +11,15 @@ ghost use Rattle.policy.specs.declared.refusal.Refusal.the-variants.{JournalSiz
 use policy::refusal::Refusal;
 
 // Lines are numbered from 1.
+#[derive(Drop)]
 pub struct Journal<'a, L> {
     lines: &'a mut [L],
 }
 
 impl<'a, L: Copy> Journal<'a, L> {
     pub fn new(lines: &'a mut [L]) -> Journal<'a, L>
-        ensures { λ r. ⌜ now (r .lines) ≡ now (lines .entry) ⌝ }
+        ensures value { λ r. ⌜ now (r .lines) ≡ now (lines .entry) ⌝ }
+        ensures lender { λ r. ⌜ name (r .lines) ≡ name (lines .entry) ⌝ }
     {
         Journal { lines }
     }
