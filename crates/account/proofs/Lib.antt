@@ -1,0 +1,6 @@
+mod Beginning
+mod Carrying
+mod Founding
+mod Listing
+mod Playing
+mod Pushes

@@ -1,0 +1,4 @@
+pub mod Founded
+pub mod Games
+pub mod Texts
+pub mod Words
