@@ -1,5 +1,5 @@
 mod Accepts
 mod Founding
 mod Owes
-mod Reaching
+pub mod Reaching
 mod Ties

@@ -5,6 +5,7 @@ ghost use Rattle.register.specs.Owing.{owed, past};
 use crate::table::Table;
 use banks::record::Record;
 
+pub mod counts;
 pub mod make;
 pub mod moves;
 pub mod opens;

@@ -83,13 +83,6 @@ impl<S: Copy, V: Copy> Register<S, V> {
         Ok(number)
     }
 
-    // How many journal lines are in use.
-    pub fn used(&self) -> u64
-        ensures { λ r. ⌜ r ≡ now (self .entry) .used ⌝ }
-    {
-        self.used
-    }
-
     // Refused by 4 for a number that is no station.
     pub fn known(&self, station: u8) -> Result<(), Refusal>
         ensures { λ r. ⌜ r ≡ cond (inside (now (self .entry) .stations) station) (Ok tt) (Err UnknownStation) ⌝ }
