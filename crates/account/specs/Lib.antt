@@ -1,4 +1,5 @@
 pub mod Founded
 pub mod Games
+pub mod Laws
 pub mod Texts
 pub mod Words

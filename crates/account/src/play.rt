@@ -1,13 +1,16 @@
 // A command file played into an output buffer.
 ghost use mathlib.Core.Path.{_≡_};
 ghost use mathlib.Core.Bool.{false};
-ghost use mathlib.Core.List.{_++_};
+ghost use mathlib.Core.List.{List, _++_};
 ghost use Prim.Native.Nat.{_+_, _^_, _<_};
 ghost use lib.ListN.{length};
 ghost use Rattle.std.specs.Of.Vec.{vec-items};
 ghost use Rattle.std.specs.Vec.{made};
+ghost use Rattle.std.specs.declared.option.Option.the-variants.{None};
+ghost use Rattle.commands.specs.declared.command.Command.{Command};
 ghost use Rattle.register.specs.Seen.{seen};
 ghost use Rattle.account.specs.Founded.{Steady, begun, going};
+ghost use Rattle.account.specs.Laws.{Begins, Lawful, game-after};
 ghost use Rattle.account.specs.Texts.{text-of, answered, left-after, first-answer, account};
 ghost use Rattle.account.specs.Words.{line, refusal-said};
 use crate::carry::carry_out;
@@ -137,7 +140,9 @@ fn begin(
 
 // The account of a command file: a line for each command, and behind a list the journal's lines.
 pub fn play(heap: Global, input: &[u8]) -> Result<Vec<u8>, AllocError>
-    ensures { λ r. ⌜ made r (λ v. vec-items v ≡ account (now (input .entry))) ⌝ }
+    ensures text { λ r. ⌜ made r (λ v. vec-items v ≡ account (now (input .entry))) ⌝ }
+    ensures begins { λ _. ⌜ Begins (now (input .entry)) ⌝ }
+    ensures lawful { λ _. ⌜ ((cs : List Command) → Lawful (game-after cs None)) ⌝ }
 {
     let mut out = Vec::new(heap);
     let mut rest = input;

@@ -1,4 +1,4 @@
 mod Accepted
-mod RoundTrips
+pub mod RoundTrips
 pub mod ReadingLaws
 pub mod WholeFiles

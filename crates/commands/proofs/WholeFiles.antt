@@ -25,7 +25,7 @@ not-end-at None b xs e = let z : _≡_ {A = ℕ} 0 1 = cc in omega arith
 not-end-at (Some k) b xs e = not-the-end (leb k (length xs)) (command b xs, drop k xs) e
 
 -- only the empty input is the end
-empty : (xs : List ℕ) → decoded xs ≡ Ok None → xs ≡ []
+pub empty : (xs : List ℕ) → decoded xs ≡ Ok None → xs ≡ []
 empty [] e = refl
 empty (b ∷ xs) e = absurd (not-end-at (width b) b xs e)
 

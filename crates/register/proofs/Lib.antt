@@ -2,6 +2,6 @@ mod Accepts
 mod Founding
 mod Latest
 mod Owes
-mod Reaching
+pub mod Reaching
 mod Singles
 mod Ties

@@ -6,6 +6,7 @@ use crate::table::Table;
 use banks::record::Record;
 
 pub mod calls;
+pub mod counts;
 pub mod make;
 
 // The most lines of a journal.

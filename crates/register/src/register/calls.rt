@@ -55,13 +55,6 @@ impl<S: Copy, V: Copy> Register<S, V> {
         self.moment += 1;
     }
 
-    // How many journal lines are in use.
-    pub fn used(&self) -> u64
-        ensures { λ r. ⌜ r ≡ now (self .entry) .used ⌝ }
-    {
-        self.used
-    }
-
     // Refused by 4 for a number that is no station.
     fn known(&self, station: u8) -> Result<(), Refusal>
         ensures { λ r. ⌜ r ≡ cond (inside (now (self .entry) .stations) station) (Ok tt) (Err UnknownStation) ⌝ }
