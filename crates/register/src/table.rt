@@ -1,7 +1,7 @@
 // The station table: sixteen rows, each changed in place.
 ghost use mathlib.Core.Path.{_≡_};
 ghost use Prim.Native.Nat.{_-_};
-ghost use lib.ListN.{length, set, replicate};
+ghost use lib.ListN.{length, getD, set, replicate};
 ghost use Rattle.machine.specs.Machines.{row-of};
 ghost use Rattle.machine.specs.declared.row.Row.the-variants.{Idle, Busy};
 ghost use Rattle.register.specs.Rows.{advanced};
@@ -27,12 +27,7 @@ impl Table {
     pub fn row(&self, station: u8) -> Row
         ensures { λ r. ⌜ r ≡ row-of (now (self .entry) .rows) station ⌝ }
     {
-        let i = station.saturating_sub(1) as usize;
-        if i < self.rows.len() {
-            self.rows[i]
-        } else {
-            Row::Idle
-        }
+        row_at(&self.rows, station.saturating_sub(1) as usize)
     }
 
     // Puts a station at the beginning of the operation with that line.
@@ -64,6 +59,13 @@ impl Table {
             advance(&mut self.rows[at], progress);
         }
     }
+}
+
+// The row at a place, from 0. Idle where there is none.
+fn row_at(rows: &[Row; 16], at: usize) -> Row
+    ensures { λ r. ⌜ r ≡ getD (now (rows .entry)) at Idle ⌝ }
+{
+    if at < rows.len() { rows[at] } else { Row::Idle }
 }
 
 // Changes a row in place.

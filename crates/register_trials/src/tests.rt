@@ -25,6 +25,10 @@ use table_banks::board::calls::BoardBank;
 use table_banks::post::Post;
 use table_banks::post::calls::PostBank;
 
+const UNKNOWN: Refusal = Refusal::UnknownStation;
+
+const SHORT: Refusal = Refusal::JournalSize;
+
 // A make from the value 7, and only how it is refused.
 fn made<S: Stamp, B: Bank<Record<S, u32>>>(
     bank: &mut B,
@@ -83,10 +87,7 @@ fn makes<S: Stamp, B: Bank<Record<S, u32>>>(
         made(bank, journal, 2, u64::MAX, 4097),
         Err(Refusal::StartingCount),
     )?;
-    check_eq(
-        made(bank, journal, 2, greatest, 4097),
-        Err(Refusal::JournalSize),
-    )?;
+    check_eq(made(bank, journal, 2, greatest, 4097), Err(SHORT))?;
     check_eq(made(bank, journal, 2, greatest, 4096), Ok(()))
 }
 
@@ -95,19 +96,13 @@ fn opens<S: Stamp, B: Bank<Record<S, u32>>>(
     journal: &mut Journal<'_, Line<S, u32>>,
 ) -> Result<(), Fail> {
     let mut register = make(bank, journal, 0, 1)?;
-    check_eq(
-        register.open_write(journal, 0, 9),
-        Err(Refusal::UnknownStation),
-    )?;
-    check_eq(register.open_read(journal, 3), Err(Refusal::UnknownStation))?;
+    check_eq(register.open_write(journal, 0, 9), Err(UNKNOWN))?;
+    check_eq(register.open_read(journal, 3), Err(UNKNOWN))?;
     check_eq(register.open_write(journal, 2, 9), Ok(1))?;
     check_eq(register.open_read(journal, 2), Err(Refusal::Busy))?;
     check_eq(register.open_read(journal, 1), Err(Refusal::JournalFull))?;
     let mut lineless = make(bank, journal, 0, 0)?;
-    check_eq(
-        lineless.open_write(journal, 3, 9),
-        Err(Refusal::UnknownStation),
-    )?;
+    check_eq(lineless.open_write(journal, 3, 9), Err(UNKNOWN))?;
     check_eq(
         lineless.open_write(journal, 2, 9),
         Err(Refusal::JournalFull),
@@ -119,14 +114,8 @@ fn steps<S: Stamp, B: Bank<Record<S, u32>>>(
     journal: &mut Journal<'_, Line<S, u32>>,
 ) -> Result<(), Fail> {
     let mut register = make(bank, journal, 0, 1)?;
-    check_eq(
-        step(&mut register, bank, journal, 0),
-        Err(Refusal::UnknownStation),
-    )?;
-    check_eq(
-        step(&mut register, bank, journal, 3),
-        Err(Refusal::UnknownStation),
-    )?;
+    check_eq(step(&mut register, bank, journal, 0), Err(UNKNOWN))?;
+    check_eq(step(&mut register, bank, journal, 3), Err(UNKNOWN))?;
     check_eq(step(&mut register, bank, journal, 2), Err(Refusal::Idle))?;
     check_eq(register.open_read(journal, 2), Ok(1))?;
     check_eq(bank.mark(1, 2, Mark::Down), Ok(()))?;
@@ -166,14 +155,8 @@ fn lookups<S: Stamp, B: Bank<Record<S, u32>>>(
     check_eq(register.open_read(journal, 2), Ok(2))?;
     check_eq(register.last_write(journal, 2), Ok(Some(1)))?;
     check_eq(register.last_write(journal, 1), Ok(None))?;
-    check_eq(
-        register.last_write(journal, 0),
-        Err(Refusal::UnknownStation),
-    )?;
-    check_eq(
-        register.last_write(journal, 3),
-        Err(Refusal::UnknownStation),
-    )
+    check_eq(register.last_write(journal, 0), Err(UNKNOWN))?;
+    check_eq(register.last_write(journal, 3), Err(UNKNOWN))
 }
 
 // A journal that is shorter than the one at the make is refused before all else.
@@ -182,15 +165,12 @@ fn shorter<S: Stamp, B: Bank<Record<S, u32>>>(
     journal: &mut Journal<'_, Line<S, u32>>,
     short: &mut Journal<'_, Line<S, u32>>,
 ) -> Result<(), Fail> {
-    check_eq(made(bank, short, 2, 0, 2), Err(Refusal::JournalSize))?;
+    check_eq(made(bank, short, 2, 0, 2), Err(SHORT))?;
     let mut register = make(bank, journal, 0, 2)?;
-    check_eq(register.open_write(short, 0, 9), Err(Refusal::JournalSize))?;
-    check_eq(register.open_read(short, 1), Err(Refusal::JournalSize))?;
-    check_eq(
-        step(&mut register, bank, short, 1),
-        Err(Refusal::JournalSize),
-    )?;
-    check_eq(register.last_write(short, 3), Err(Refusal::JournalSize))?;
+    check_eq(register.open_write(short, 0, 9), Err(SHORT))?;
+    check_eq(register.open_read(short, 1), Err(SHORT))?;
+    check_eq(step(&mut register, bank, short, 1), Err(SHORT))?;
+    check_eq(register.last_write(short, 3), Err(SHORT))?;
     check_eq(register.open_read(journal, 1), Ok(1))
 }
 
