@@ -4,12 +4,20 @@ use std::error::AnyError;
 use std::io::Read;
 use std::io::Write;
 
-// Of a longer input the first 65,536 bytes are read.
+// The most bytes that are read.
+const LIMIT: usize = 65536;
+
 fn main(rt: LibcRuntime) -> Result<(), AnyError> {
     let heap = rt.alloc();
     let mut input = Vec::new(heap);
     rt.stdin().take(65536).read_to_end(&mut input)?;
     let text = play(heap, &input)?;
     rt.stdout().write_all(&text)?;
+    if input.len() == LIMIT {
+        eprintln!(
+            rt,
+            "replay: {LIMIT} bytes were read; what follows them was not"
+        )?;
+    }
     Ok(())
 }
