@@ -2,5 +2,5 @@ use borrow.Author.Needs.{needs}
 use Rattle.std.proofs.shelf.Lists.{getD-past}
 use Rattle.register.proofs.table.row_at.Needs as need
 
-pub returns-else-i-lt16 : need.returns-else-i-lt16
-returns-else-i-lt16 c = search (needs, getD-past)
+pub returns-else-at-lt16 : need.returns-else-at-lt16
+returns-else-at-lt16 c = search (needs, getD-past)
