@@ -31,7 +31,7 @@ pub trait Stamp: Copy {
 
     // Writes the stamp as count, full stop, owner.
     fn print<W: fmt::Write>(&self, f: &mut fmt::Formatter<W>) -> fmt::Result
-        ensures { DisplaysOnOk write_str_gives f.old result (Some (shown_stamp make self.now)) f.new }
+        ensures { DisplaysOnOk W.write_str_gives f.old result (Some (shown_stamp make self.now)) f.new }
     {
         let count = self.count();
         let owner = self.owner();
