@@ -6,8 +6,8 @@ use Rattle.account.proofs.digits.spell.Goals as goal
 pub loop-left-init : goal.loop-left-init
 loop-left-init c = (omega arith, omega arith, c.requires, digits_none c.args.number _ c.args.digits.now (omega arith))
 
-pub overflow-sub-at : goal.overflow-sub-at
-overflow-sub-at c = omega (arith, decimal_nonempty c.loop-left.left (omega arith))
+pub overflow_sub-at : goal.overflow_sub-at
+overflow_sub-at c = omega (arith, decimal_nonempty c.loop-left.left (omega arith))
 
 pub bounds-digits-at : goal.bounds-digits-at
 bounds-digits-at c = omega (arith, decimal_nonempty c.loop-left.left (omega arith))

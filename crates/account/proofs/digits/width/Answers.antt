@@ -3,8 +3,8 @@ use Rattle.std.proofs.lemmas.Fmt.{length-decimal-le}
 use Rattle.account.proofs.Spelling.{one_digit, one_less}
 use Rattle.account.proofs.digits.width.Goals as goal
 
-pub overflow-add-count : goal.overflow-add-count
-overflow-add-count c = omega (arith, length-decimal-le 20 c.args.number (omega arith) (omega arith) (omega arith))
+pub overflow_add-count : goal.overflow_add-count
+overflow_add-count c = omega (arith, length-decimal-le 20 c.args.number (omega arith) (omega arith) (omega arith))
 
 pub loop-left-preserved : goal.loop-left-preserved
 loop-left-preserved c =

@@ -7,7 +7,7 @@ use Rattle.account.proofs.found.found.Goals as goal
 
 pub returns-in-Ok : goal.returns-in-Ok
 returns-in-Ok g c =
-    let same : vec_items (with_items c.in-ok-lines.lines c.make-over.new.lines) ≡ c.make-over.new.lines = take_at c.make-over.new.lines _ _ (search rules) in
-    let new = c.deref-mut.ensures.value ∙ c.in-ok-lines.ensures ∙ ap (replicate 512) c.blank.ensures in
-    ap (λ ls. Ok (seen c.in-Ok.register (g.B.Bank.meaning c.make-over.new.bank) ls)) same
+    let same : vec_items (with_items c.in_ok-lines.lines c.make_over.new.lines) ≡ c.make_over.new.lines = take_at c.make_over.new.lines _ _ (search rules) in
+    let new = c.deref_mut.ensures.value ∙ c.in_ok-lines.ensures ∙ ap (replicate 512) c.blank.ensures in
+    ap (λ ls. Ok (seen c.in-Ok.register (g.B.Bank.meaning c.make_over.new.bank) ls)) same
     ∙ made_as (g.B.Bank.meaning c.args.bank) _ _ c.args.stations c.args.count c.args.value _ new c.in-Ok.ensures

@@ -15,8 +15,8 @@ returns-in-Ok c =
 pub returns : goal.returns
 returns c =
     let n = c.args.stations in
-    let table = vec_items c.in-ok-table.table in
+    let table = vec_items c.in_ok-table.table in
     let origin : Record PairStamp PolicyNumber = record { tag = c.blank.result.stamp; value = c.args.value } in
     let enough : n ≤ 16 → n * n + n ≤ c.cells.result + n = λ most. omega (arith, c.cells.ensures.full most) in
     bank_refused n (n * n + n) table origin c.args.count c.args.value _ _
-    (table_fits n (n * n + n) _ table _ c.in-ok-table.ensures enough) c.in-Err.ensures
+    (table_fits n (n * n + n) _ table _ c.in_ok-table.ensures enough) c.in-Err.ensures

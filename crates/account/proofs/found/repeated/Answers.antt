@@ -9,4 +9,4 @@ from_none n k x was now none zero is =
     is ∙ ap (λ xs. take n xs ++ replicate (n - k) x) none ∙ ap (λ xs. xs ++ replicate (n - k) x) (take_all n [] (omega arith)) ∙ ap (λ m. replicate m x) all
 
 pub returns : goal.returns
-returns g c = from_none c.args.count _ c.args.x _ _ c.new-items.ensures.items c.new-items.ensures.len c.in-ok-resize.ensures.items
+returns g c = from_none c.args.count _ c.args.x _ _ c.new-items.ensures.items c.new-items.ensures.len c.in_ok-resize.ensures.items

@@ -4,7 +4,7 @@ use Rattle.account.proofs.words.put_journal.Goals as goal
 
 pub loop-line-preserved : goal.loop-line-preserved
 loop-line-preserved c =
-    (omega arith, journal_more c.args.lines.now c.loop-line.line-index c.line-item.result _ _ _ c.loop-line-test.true c.line-item.is c.put-line-to.ensures.text c.loop-line.invariant.1)
+    (omega arith, journal_more c.args.lines.now c.loop-line.line-index c.line-item.result _ _ _ c.loop-line-test.true c.line-item.is c.put_line-to.ensures.text c.loop-line.invariant.1)
 
 pub returns : goal.returns
 returns c =

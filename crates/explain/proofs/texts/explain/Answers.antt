@@ -14,7 +14,7 @@ laws xs typed long = let bytes = λ (i : ℕ). Fits-lt-pow (typed i) in (line_ea
 pub returns-in-Ok-None : goal.returns-in-Ok-None
 returns-in-Ok-None c =
     let e : ◌≡◌ {A = Decoded} (Ok None) (decoded c.loop-out.rest.now) = cc c.in-Ok-None.ensures.value in
-    let both = laws c.args.input.now c.type-inv.input (omega arith) in
+    let both = laws c.args.input.now c.type_inv.input (omega arith) in
     record { text = at_end _ _ _ _ e c.loop-out.invariant.1; lines = both.0; tells = both.1 }
 
 pub loop-out-preserved : goal.loop-out-preserved
@@ -22,19 +22,19 @@ loop-out-preserved c =
     let arm = c.in-Ok-Some in
     let e : ◌≡◌ {A = Decoded} (Ok (Some (arm.command, arm.behind.now))) (decoded c.loop-out.rest.now) = search (rules, arm.ensures.value) in
     let less = shorter c.loop-out.rest.now arm.command arm.behind.now (sym e) in
-    (omega arith, at_more _ _ _ _ _ _ _ e c.in-ok-push-command.ensures c.loop-out.invariant.1)
+    (omega arith, at_more _ _ _ _ _ _ _ e c.in_ok-push_command.ensures c.loop-out.invariant.1)
 
 pub returns-in-Err : goal.returns-in-Err
 returns-in-Err c =
-    let both = laws c.args.input.now c.type-inv.input (omega arith) in
-    record { text = at_stop _ _ _ _ _ _ c.in-Err.ensures.value c.in-ok-push-refusal.ensures c.loop-out.invariant.1; lines = both.0; tells = both.1 }
+    let both = laws c.args.input.now c.type_inv.input (omega arith) in
+    record { text = at_stop _ _ _ _ _ _ c.in-Err.ensures.value c.in_ok-push_refusal.ensures c.loop-out.invariant.1; lines = both.0; tells = both.1 }
 
-pub returns-in-err-push-command : goal.returns-in-err-push-command
-returns-in-err-push-command c =
-    let both = laws c.args.input.now c.type-inv.input (omega arith) in
+pub returns-in_err-push_command : goal.returns-in_err-push_command
+returns-in_err-push_command c =
+    let both = laws c.args.input.now c.type_inv.input (omega arith) in
     record { text = search rules; lines = both.0; tells = both.1 }
 
-pub returns-in-err-push-refusal : goal.returns-in-err-push-refusal
-returns-in-err-push-refusal c =
-    let both = laws c.args.input.now c.type-inv.input (omega arith) in
+pub returns-in_err-push_refusal : goal.returns-in_err-push_refusal
+returns-in_err-push_refusal c =
+    let both = laws c.args.input.now c.type_inv.input (omega arith) in
     record { text = search rules; lines = both.0; tells = both.1 }

@@ -8,14 +8,14 @@ use Rattle.account.specs.Words.{line, said}
 use Rattle.account.proofs.Pieces.{some_left, not_empty, taken_less, taken_more}
 use Rattle.account.proofs.player.Player.next.Goals as goal
 
-pub overflow-add-number : goal.overflow-add-number
-overflow-add-number c =
+pub overflow_add-number : goal.overflow_add-number
+overflow_add-number c =
     let l = c.loop-input in
     let same : left l.self ≡ length l.input.now = ap length l.invariant.0 in
     omega (arith, l.self.fits, taken_less l.input.now c.in-Some.read c.in-Some.behind.now c.in-Some.ensures)
 
-pub invariant-of-self-in-loop-input : goal.invariant-of-self-in-loop-input
-invariant-of-self-in-loop-input c =
+pub invariant_of-self-in-loop-input : goal.invariant_of-self-in-loop-input
+invariant_of-self-in-loop-input c =
     let l = c.loop-input in
     let same : left l.self ≡ length l.input.now = ap length l.invariant.0 in
     (omega (arith, l.self.fits, taken_less l.input.now c.in-Some.read c.in-Some.behind.now c.in-Some.ensures), tt)
@@ -30,7 +30,7 @@ loop-input-preserved c =
     let out = shown l.page in
     let g = stage_game l.self.stage in
     let h = stage_game c.play.new.self in
-    let o = c.in-ok-outcome.outcome in
+    let o = c.in_ok-outcome.outcome in
     let same : left l.self ≡ length xs = ap length l.invariant.0 in
     let less : length c.in-Some.behind.now < length xs = taken_less xs c.in-Some.read c.in-Some.behind.now c.in-Some.ensures in
     let put =
@@ -40,7 +40,7 @@ loop-input-preserved c =
     let whole = sym (ap (λ k. out ++ text_of xs g k) l.invariant.1) ∙ sym (ap (λ ys. out ++ text_of ys g l.self.number) l.invariant.0) ∙ l.invariant.2 in (
       refl,
       refl,
-      taken_more l.number g h xs c.in-Some.behind.now out (shown c.put.new.self) (rest c.args.self.now) (said (game_used h) (game_lines h) o) c.in-Some.read c.in-Some.ensures c.in-ok-outcome.ensures.made put whole,
+      taken_more l.number g h xs c.in-Some.behind.now out (shown c.put.new.self) (rest c.args.self.now) (said (game_used h) (game_lines h) o) c.in-Some.read c.in-Some.ensures c.in_ok-outcome.ensures.made put whole,
       omega (arith, l.invariant.3),
       λ filled. omega (arith, l.invariant.3),
     )
@@ -48,13 +48,13 @@ loop-input-preserved c =
 pub returns-after-loop-input : goal.returns-after-loop-input
 returns-after-loop-input c =
     let self = c.args.self.now in
-    let answer : not c.is-empty-more.result ≡ some (rest self) = ap not c.is-empty-more.ensures ∙ some_left self.input.now (stage_game self.stage) self.number in
+    let answer : not c.is_empty-more.result ≡ some (rest self) = ap not c.is_empty-more.ensures ∙ some_left self.input.now (stage_game self.stage) self.number in
     let filled : 59776 < c.loop-input.page.used = leb-false _ _ (sym c.loop-input-test.ensures) in
     record { text = c.loop-input.invariant.2; answer = answer; goes = λ more. c.loop-input.invariant.4 (omega arith) }
 
-pub returns-in-default : goal.returns-in-default
-returns-in-default c =
+pub returns-in_default : goal.returns-in_default
+returns-in_default c =
     let self = c.args.self.now in
-    let answer : not c.is-empty-more.result ≡ some (rest self) = ap not c.is-empty-more.ensures ∙ some_left self.input.now (stage_game self.stage) self.number in
-    let none : left c.loop-input.self ≡ 0 = ap length (c.loop-input.invariant.0 ∙ c.in-default.ensures) in
-    record { text = c.loop-input.invariant.2; answer = answer; goes = λ more. omega (arith, not_empty self.input.now c.is-empty-more.result c.is-empty-more.ensures (not-true _ more)) }
+    let answer : not c.is_empty-more.result ≡ some (rest self) = ap not c.is_empty-more.ensures ∙ some_left self.input.now (stage_game self.stage) self.number in
+    let none : left c.loop-input.self ≡ 0 = ap length (c.loop-input.invariant.0 ∙ c.in_default.ensures) in
+    record { text = c.loop-input.invariant.2; answer = answer; goes = λ more. omega (arith, not_empty self.input.now c.is_empty-more.result c.is_empty-more.ensures (not-true _ more)) }

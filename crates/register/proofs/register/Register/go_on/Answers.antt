@@ -2,8 +2,8 @@ use Rattle.std.proofs.Common.{◌≤◌, arith}
 use Rattle.register.proofs.Owes.{went_on}
 use Rattle.register.proofs.register.Register.go_on.Goals as goal
 
-pub invariant-of-self : goal.invariant-of-self
-invariant-of-self g c =
+pub invariant_of-self : goal.invariant_of-self
+invariant_of-self g c =
     let r = c.args.self.now in
     let n = r.stations in
     let s = c.args.station in

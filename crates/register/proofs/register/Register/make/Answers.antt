@@ -5,12 +5,12 @@ use Rattle.register.specs.Makings.{left_by}
 use Rattle.register.proofs.Founding.{unstarted, founded, founded_as}
 use Rattle.register.proofs.register.Register.make.Goals as goal
 
-pub returns-in-default : goal.returns-in-default
-returns-in-default g c =
+pub returns-in_default : goal.returns-in_default
+returns-in_default g c =
     let bank = g.B.Bank.meaning c.args.bank.now in
     let few : inside 16 c.args.stations ≡ true = search rules in
     let same : c.args.stations ≡ bank.stations = search rules in
-    let is = unstarted g.S.Stamp.make bank _ c.args.count c.args.value c.args.journal.now.lines.now c.args.size g.met.S.Stamp.laws few same c.in-default.ensures in
+    let is = unstarted g.S.Stamp.make bank _ c.args.count c.args.value c.args.journal.now.lines.now c.args.size g.met.S.Stamp.laws few same c.in_default.ensures in
     record { call = sym (ap (left_by bank) is); law = tt }
 
 pub returns : goal.returns

@@ -10,7 +10,7 @@ returns g c =
     let lines = c.args.journal.now.lines.now in
     let room : r.used < r.size = omega arith in
     let call = open_tied r c.begin.new.self lines _ c.args.station c.args.kind c.args.value
-    c.in-ok-holds.ensures c.in-ok-known.ensures c.in-default.ensures room
+    c.in_ok-holds.ensures c.in_ok-known.ensures c.in_default.ensures room
     (λ bank. c.put.ensures.after ∙ ap (set lines (r.used + 1 - 1)) (c.fresh-line.ensures bank lines)) c.begin.ensures in
     record {
       call = call;

@@ -33,7 +33,7 @@ returns g c =
     let s = c.args.station in
     let call =
     c.act.ensures.call
-    ∙ sym (stepping m M f s _ _ c.in-Some.line c.in-ok-holds.ensures c.in-ok-known.ensures c.in-Busy.ensures c.in-Some.ensures) in
+    ∙ sym (stepping m M f s _ _ c.in-Some.line c.in_ok-holds.ensures c.in_ok-known.ensures c.in-Busy.ensures c.in-Some.ensures) in
     record {
       call = call;
       reached = reaching m _ _ (step_call s (choice_at f s (row_of r.table.rows s))) (sym (ap (λ p. p.1) call));

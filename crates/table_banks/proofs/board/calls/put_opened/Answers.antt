@@ -5,5 +5,5 @@ use Rattle.table_banks.proofs.board.calls.put_opened.Goals as goal
 pub returns : goal.returns
 returns g c =
     let xs = c.args.lines.now in
-    let l = c.index-mut.result.now in
-    record { items = (l, slice_get_read (vec_items xs) (vec_len xs) c.args.i l xs.ok.0 c.requires c.index-mut.ensures.value, refl); len = refl }
+    let l = c.index_mut.result.now in
+    record { items = (l, slice_get_read (vec_items xs) (vec_len xs) c.args.i l xs.ok.0 c.requires c.index_mut.ensures.value, refl); len = refl }

@@ -6,5 +6,5 @@ use Rattle.table_banks.proofs.notes.Notes.note_mark.Goals as goal
 pub returns : goal.returns
 returns c =
     let k = c.args.self.now in
-    ap (λ i. noting k.count k.readers (set k.marks i c.args.mark)) c.place-of-i.ensures
+    ap (λ i. noting k.count k.readers (set k.marks i c.args.mark)) c.place_of-i.ensures
     ∙ noting_mark k.count k.readers k.marks c.args.writer c.args.reader c.args.mark c.requires (omega arith) (omega arith)

@@ -8,7 +8,7 @@ pub returns : goal.returns
 returns g c =
     let n = c.args.stations in
     let x = c.args.x in
-    let xs = vec_items c.fill-front.new.lines in
+    let xs = vec_items c.fill_front.new.lines in
     let old = vec_items c.args.lines.now in
-    let front : xs ≡ replicate (post_needs n) x ++ drop (post_needs n) old = c.fill-front.ensures.items ∙ ap (λ j. replicate j x ++ drop j old) c.needed.ensures in
-    record { cells = post_filled n x xs (drop (post_needs n) old) front; kept = behind_front (post_needs n) x xs (drop (post_needs n) old) front; len = c.fill-front.ensures.len }
+    let front : xs ≡ replicate (post_needs n) x ++ drop (post_needs n) old = c.fill_front.ensures.items ∙ ap (λ j. replicate j x ++ drop j old) c.needed.ensures in
+    record { cells = post_filled n x xs (drop (post_needs n) old) front; kept = behind_front (post_needs n) x xs (drop (post_needs n) old) front; len = c.fill_front.ensures.len }
