@@ -22,19 +22,19 @@ loop-out-preserved c =
     let arm = c.in-Ok-Some in
     let e : ◌≡◌ {A = Decoded} (Ok (Some (arm.command, arm.behind.now))) (decoded c.loop-out.rest.now) = search (rules, arm.ensures.value) in
     let less = shorter c.loop-out.rest.now arm.command arm.behind.now (sym e) in
-    (omega arith, at_more _ _ _ _ _ _ _ e c.in_ok-push_command.ensures c.loop-out.invariant.1)
+    (omega arith, at_more _ _ _ _ _ _ _ e c.in_ok-push_command-in-Ok-Some.ensures c.loop-out.invariant.1)
 
 pub returns-in-Err : goal.returns-in-Err
 returns-in-Err c =
     let both = laws c.args.input.now c.type_inv.input (omega arith) in
-    record { text = at_stop _ _ _ _ _ _ c.in-Err.ensures.value c.in_ok-push_refusal.ensures c.loop-out.invariant.1; lines = both.0; tells = both.1 }
+    record { text = at_stop _ _ _ _ _ _ c.in-Err.ensures.value c.in_ok-push_refusal-in-Err.ensures c.loop-out.invariant.1; lines = both.0; tells = both.1 }
 
-pub returns-in_err-push_command : goal.returns-in_err-push_command
-returns-in_err-push_command c =
+pub returns-in_err-push_command-in-Ok-Some : goal.returns-in_err-push_command-in-Ok-Some
+returns-in_err-push_command-in-Ok-Some c =
     let both = laws c.args.input.now c.type_inv.input (omega arith) in
     record { text = search rules; lines = both.0; tells = both.1 }
 
-pub returns-in_err-push_refusal : goal.returns-in_err-push_refusal
-returns-in_err-push_refusal c =
+pub returns-in_err-push_refusal-in-Err : goal.returns-in_err-push_refusal-in-Err
+returns-in_err-push_refusal-in-Err c =
     let both = laws c.args.input.now c.type_inv.input (omega arith) in
     record { text = search rules; lines = both.0; tells = both.1 }

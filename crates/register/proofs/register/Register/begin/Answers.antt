@@ -12,4 +12,4 @@ invariant_of-self g c =
     let some = c.requires.some in
     let most : s ≤ 16 = omega arith in
     let sums = begun n s rows sixteen some most _ _ c.requires.idle c.open.ensures (omega arith) in
-    (r.manned, (r.sized, (omega arith, (omega arith, (omega arith, tt)))))
+    record { manned = r.manned; sized = r.sized; within = omega arith; timely = omega arith; running = omega arith }

@@ -12,4 +12,4 @@ invariant_of-self g c =
     let some = c.requires.some in
     let most : s ≤ 16 = omega arith in
     let sums = went_on n s rows sixteen some most c.args.line c.args.progress _ c.requires.busy c.advance.ensures c.requires.before in
-    (r.manned, (r.sized, (omega arith, (omega arith, (omega arith, tt)))))
+    record { manned = r.manned; sized = r.sized; within = omega arith; timely = omega arith; running = omega arith }
