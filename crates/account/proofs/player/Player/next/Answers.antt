@@ -18,7 +18,7 @@ pub invariant_of-self-in-loop-input : goal.invariant_of-self-in-loop-input
 invariant_of-self-in-loop-input c =
     let l = c.loop-input in
     let same : left l.self ≡ length l.input.now = ap length l.invariant.0 in
-    (omega (arith, l.self.fits, taken_less l.input.now c.in-Some.read c.in-Some.behind.now c.in-Some.ensures), tt)
+    record { fits = omega (arith, l.self.fits, taken_less l.input.now c.in-Some.read c.in-Some.behind.now c.in-Some.ensures) }
 
 pub loop-input-smaller : goal.loop-input-smaller
 loop-input-smaller c = taken_less c.loop-input.input.now c.in-Some.read c.in-Some.behind.now c.in-Some.ensures
