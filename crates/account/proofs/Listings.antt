@@ -1,6 +1,6 @@
 -- The law of printed lists. Assumes nothing.
 use Rattle.std.proofs.Common.{◌≡◌, ℕ, suc, ◌+◌, ◌^◌, ◌<◌, List, [], ◌∷◌, ◌++◌, map, length, take, drop, Some, None, codes, decimal, sym, refl, ap, ◌∙◌, arith}
-use Rattle.std.specs.List.{AllByRecursion as All}
+use Rattle.std.specs.List.{AllByRecursion}
 use Rattle.std.proofs.ByRecursion.{All-take}
 use Rattle.text.specs.Pieces.{pieces, number}
 use Rattle.text.proofs.Pieces.{pieces_last, number_decimal, decimal_lacks}
@@ -23,7 +23,7 @@ head_read : (n : ℕ) → n < 2 ^ 64 → number (word (pieces 32 (codes "lines "
 head_read n fits =
     ap (λ ws. number (word ws 1)) (then 32 (codes "lines") (decimal n) _ refl (pieces_last 32 (decimal n) (decimal_lacks 32 n refl fits))) ∙ number_decimal n fits
 
-pub reads_back : (used : ℕ) (ls : List Entry) → used < 2 ^ 64 → All Sized (take used ls) → ReadsBack used ls
+pub reads_back : (used : ℕ) (ls : List Entry) → used < 2 ^ 64 → AllByRecursion Sized (take used ls) → ReadsBack used ls
 reads_back used ls fits sized =
     let first = head_read used fits in
     let others = lines_read (take used ls) sized in
@@ -46,7 +46,7 @@ same_lines (k ∷ ks) (l ∷ ls) e =
     let others = same_lines ks ls tails in
     cc
 
-same_lists : (m n : ℕ) (ks ls : List Entry) → m < 2 ^ 64 → n < 2 ^ 64 → All Sized (take m ks) → All Sized (take n ls) → list_said m ks ≡ list_said n ls → (m ≡ n) × (take m ks ≡ take n ls)
+same_lists : (m n : ℕ) (ks ls : List Entry) → m < 2 ^ 64 → n < 2 ^ 64 → AllByRecursion Sized (take m ks) → AllByRecursion Sized (take n ls) → list_said m ks ≡ list_said n ls → (m ≡ n) × (take m ks ≡ take n ls)
 same_lists m n ks ls m-fits n-fits ks-sized ls-sized e =
     let same : ◌≡◌ {A = ℕ × List Printed} (m, map printed (take m ks)) (n, map printed (take n ls)) = sym (reads_back m ks m-fits ks-sized) ∙ ap read_list e ∙ reads_back n ls n-fits ls-sized in
     (ap (λ p. p.0) same, same_lines (take m ks) (take n ls) (ap (λ p. p.1) same))

@@ -1,6 +1,6 @@
 -- The games of a file of bytes are games of numbers of 64 bits. Assumes nothing.
 use Rattle.std.proofs.Common.{◌≡◌, ℕ, zero, suc, ◌+◌, ◌^◌, ◌<◌, ◌≤◌, Bool, true, false, ◌&&◌, eqb, leb, List, [], ◌∷◌, ◌++◌, length, replicate, IfOk, Some, None, Ok, Err, Option, Result, ap, subst, arith, length-append}
-use Rattle.std.specs.List.{AllByRecursion as All}
+use Rattle.std.specs.List.{AllByRecursion}
 use Rattle.std.proofs.lemmas.Bool.{cond_both}
 use Rattle.policy.specs.declared.entry.PolicyNumber.{PolicyNumber}
 use Rattle.policy.specs.declared.refusal.Refusal.{Refusal}
@@ -25,7 +25,7 @@ use Rattle.account.proofs.ListingsSizes.{Within, Counted, later, unmoved, pair_c
 abbrev Made : Result Played Refusal → Type 0
 Made r = IfOk r (Within 0)
 
-begun_within : (b : Meaning Cell) (n : ℕ) (v : PolicyNumber) (ls : List Entry) (size : ℕ) (o : Option PairStamp) → v.0 < 2 ^ 64 → All Sized ls → Counted o → Made (begun b n v ls size o)
+begun_within : (b : Meaning Cell) (n : ℕ) (v : PolicyNumber) (ls : List Entry) (size : ℕ) (o : Option PairStamp) → v.0 < 2 ^ 64 → AllByRecursion Sized ls → Counted o → Made (begun b n v ls size o)
 begun_within b n v ls size None fits sized counted = tt
 begun_within b n v ls size (Some s) fits sized counted =
     record {
@@ -37,7 +37,7 @@ begun_within b n v ls size (Some s) fits sized counted =
       moment = omega arith;
     }
 
-make_within : (b : Meaning Cell) (n k : ℕ) (v : PolicyNumber) (ls : List Entry) (size : ℕ) → v.0 < 2 ^ 64 → All Sized ls → Made (make pair_make b n k v ls size)
+make_within : (b : Meaning Cell) (n k : ℕ) (v : PolicyNumber) (ls : List Entry) (size : ℕ) → v.0 < 2 ^ 64 → AllByRecursion Sized ls → Made (make pair_make b n k v ls size)
 make_within b n k v ls size fits sized =
     cond_both (inside 16 n) _ _ Made
     (λ _. cond_both (eqb n b.stations) _ _ Made
@@ -47,7 +47,7 @@ make_within b n k v ls size fits sized =
     (λ _. tt))
     (λ _. tt)
 
-all_replicate : {X : Type 0} (P : X → Type 0) (n : ℕ) (x : X) → P x → All P (replicate n x)
+all_replicate : {X : Type 0} (P : X → Type 0) (n : ℕ) (x : X) → P x → AllByRecursion P (replicate n x)
 all_replicate P zero x p = tt
 all_replicate P (suc n) x p = (p, all_replicate P n x p)
 

@@ -1,6 +1,6 @@
 -- A machine whose numbers have 64 bits keeps to that over calls whose numbers do. Assumes nothing.
 use Rattle.std.proofs.Common.{ℕ, zero, suc, ◌+◌, ◌-◌, ◌*◌, ◌/◌, ◌%◌, ◌^◌, ◌<◌, ◌≤◌, Bool, true, false, T, eqb, ltb, leb, List, [], ◌∷◌, length, set, IfSome, IfOk, Some, None, Ok, Err, Option, Result, arith, leb→le}
-use Rattle.std.specs.List.{AllByRecursion as All, slice_get}
+use Rattle.std.specs.List.{AllByRecursion, slice_get}
 use Rattle.std.proofs.ByRecursion.{All-set}
 use Rattle.std.proofs.lemmas.List.{length-set}
 use Rattle.std.proofs.lemmas.Bool.{cond_both, leb-true, ltb-true}
@@ -25,7 +25,7 @@ use Rattle.account.proofs.ListingsCells.{Cell, Held, Banked, read_held, start_he
 pub record Within (t : ℕ) (M : Played) : Type 0 where
   pub origin : Held M.origin
   pub bank : Banked M.bank
-  pub lines : All Sized M.lines
+  pub lines : AllByRecursion Sized M.lines
   pub used : M.used ≤ M.moment
   pub full : M.used ≤ length M.lines
   pub moment : M.moment ≤ t
@@ -46,7 +46,7 @@ pair_counted k w =
     cond_both (leb k 4294967295) _ None Counted
     (λ e. counted_when k w (leb w 16) (λ t. leb→le w 16 t) (omega (arith, leb-true k 4294967295 e))) (λ _. tt)
 
-nth_all : {X : Type 0} (P : X → Type 0) (xs : List X) (i : ℕ) → All P xs → IfSome (slice_get xs i) P
+nth_all : {X : Type 0} (P : X → Type 0) (xs : List X) (i : ℕ) → AllByRecursion P xs → IfSome (slice_get xs i) P
 nth_all P [] i all = tt
 nth_all P (x ∷ xs) zero all = all.0
 nth_all P (x ∷ xs) (suc i) all = nth_all P xs i all.1
@@ -69,7 +69,7 @@ module _ (t : ℕ) (M : Played) (w : Within t M) (short : t + 1 < 2 ^ 64) where
   Leaves a = Within (t + 1) a.1
 
   -- an accepted call
-  next : (b : Meaning Cell) (ls : List Entry) (used s : ℕ) (row : Row) → Banked b → All Sized ls → used ≤ M.moment + 1 → used ≤ length ls → Within (t + 1) (next_machine M b ls used s row)
+  next : (b : Meaning Cell) (ls : List Entry) (used s : ℕ) (row : Row) → Banked b → AllByRecursion Sized ls → used ≤ M.moment + 1 → used ≤ length ls → Within (t + 1) (next_machine M b ls used s row)
   next b ls used s row banked sized few full =
       record { origin = w.origin; bank = banked; lines = sized; used = few; full = full; moment = omega (arith, w.moment) }
 

@@ -1,7 +1,7 @@
 -- The words of a printed line, and the lines of a printed list. Assumes nothing.
 use Rattle.std.proofs.Common.{◌≡◌, ℕ, ◌^◌, ◌<◌, true, false, List, [], ◌∷◌, ◌++◌, map, get_or, codes, decimal, refl, ap, ◌∙◌, append_assoc, append-nil, arith}
 use Rattle.std.specs.Char.{is_ascii_digit}
-use Rattle.std.specs.List.{AllByRecursion as All}
+use Rattle.std.specs.List.{AllByRecursion}
 use Rattle.text.specs.Pieces.{pieces}
 use Rattle.text.proofs.Pieces.{lacks, lacks_append, pieces_more, pieces_last, number_decimal, decimal_lacks}
 use Rattle.stamps.specs.Makes.{shown_stamp}
@@ -90,10 +90,10 @@ line_lacks l fits =
     (on (decimal l.opened) _ (decimal_lacks 10 l.opened refl fits.3) (decimal_lacks 10 l.ended refl fits.4)))))
 
 -- lines in front of which a line's end stands
-pub journal_lines : (first : List ℕ) (ls : List Entry) → lacks 10 first ≡ true → All Sized ls → pieces 10 (first ++ journal_said ls) ≡ first ∷ map line_said ls
+pub journal_lines : (first : List ℕ) (ls : List Entry) → lacks 10 first ≡ true → AllByRecursion Sized ls → pieces 10 (first ++ journal_said ls) ≡ first ∷ map line_said ls
 journal_lines first [] p fits = ap (pieces 10) (append-nil first) ∙ pieces_last 10 first p
 journal_lines first (l ∷ ls) p fits = then 10 first _ _ p (journal_lines (line_said l) ls (line_lacks l fits.0) fits.1)
 
-pub lines_read : (ls : List Entry) → All Sized ls → map read_line (map line_said ls) ≡ map printed ls
+pub lines_read : (ls : List Entry) → AllByRecursion Sized ls → map read_line (map line_said ls) ≡ map printed ls
 lines_read [] fits = refl
 lines_read (l ∷ ls) fits = let first = line_read l fits.0 in let others = lines_read ls fits.1 in cc

@@ -1,10 +1,11 @@
 -- A game of the code, as the game of the definitions. Assumes nothing.
 --     seen_game meaning a         what making a game answered, with the machine in the place of the game; meaning: of its bank
 --     going choice M              a game that goes on
+--     begun meaning chooses a     the words of a make that answered a, and the game after it
 --     stage_game s                the game of a stage, if one is made
 --     told o s                    the words of the outcome o that led to the stage s, and the game of that stage
 --     Steady chooses              what a bank chooses is the same in all its states and cells
-use Rattle.std.specs.Prelude.{◌≡◌, ℕ, Bool, true, false, List, [], Some, None, Ok, Err, vec_items, Option, Result}
+use Rattle.std.specs.Prelude.{◌≡◌, ℕ, Bool, true, false, List, [], Some, None, Ok, Err, vec_items, codes, Option, Result}
 use Rattle.policy.specs.declared.entry.PolicyNumber.{PolicyNumber}
 use Rattle.policy.specs.declared.refusal.Refusal.{Refusal}
 use Rattle.commands.specs.declared.command.Command.{Command}
@@ -33,6 +34,10 @@ module _ {B : Type 0} where
   abbrev pub seen_game : (B → Meaning (Record PairStamp PolicyNumber)) → Result (Game B) Refusal → Result Played Refusal
   seen_game meaning (Ok g) = Ok (seen_made meaning g)
   seen_game meaning (Err e) = Err e
+
+  abbrev pub begun : (B → Meaning (Record PairStamp PolicyNumber)) → (B → ℕ → ℕ → Bool) → Result (Game B) Refusal → List ℕ × Option texts.Game
+  begun meaning chooses (Ok g) = (codes "ok", going (chooses g.bank 0 0) (seen_made meaning g))
+  begun meaning chooses (Err e) = (refusal_said e, None)
 
   abbrev pub Steady : (B → ℕ → ℕ → Bool) → Type 0
   Steady chooses = (b c : B) (w r : ℕ) → chooses b w r ≡ chooses c 0 0

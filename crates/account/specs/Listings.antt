@@ -8,7 +8,7 @@
 --     ListsAt xs cs g    a list that follows the commands cs in the file xs prints the journal of the game g, and is read back
 --     ListsBack          the law: reading a printed list gives back its lines, so its text tells them; and so at every list of every file
 use Rattle.std.specs.Prelude.{◌≡◌, ℕ, ◌+◌, ◌^◌, ◌<◌, ◌≤◌, cond, List, [], ◌∷◌, ◌++◌, map, length, take, drop, Some, None, codes, slice_index_or}
-use Rattle.std.specs.List.{AllByRecursion as All}
+use Rattle.std.specs.List.{AllByRecursion}
 use Rattle.std.specs.Str.{bytes_eq}
 use Rattle.text.specs.Pieces.{pieces, number}
 use Rattle.policy.specs.declared.entry.PolicyNumber.{PolicyNumber}
@@ -117,10 +117,10 @@ Worked =
 pub record ListsBack : Type 0 where
   pub worked : Worked
   -- every list is read back
-  pub any : (used : ℕ) (ls : List Entry) → used < 2 ^ 64 → All Sized (take used ls) → ReadsBack used ls
+  pub any : (used : ℕ) (ls : List Entry) → used < 2 ^ 64 → AllByRecursion Sized (take used ls) → ReadsBack used ls
   -- two lines of which the same is printed are the same line
   pub apart : (k l : Entry) → printed k ≡ printed l → k ≡ l
   -- so two lists with the same text are lists of the same lines
-  pub tells : (m n : ℕ) (ks ls : List Entry) → m < 2 ^ 64 → n < 2 ^ 64 → All Sized (take m ks) → All Sized (take n ls) → list_said m ks ≡ list_said n ls → (m ≡ n) × (take m ks ≡ take n ls)
+  pub tells : (m n : ℕ) (ks ls : List Entry) → m < 2 ^ 64 → n < 2 ^ 64 → AllByRecursion Sized (take m ks) → AllByRecursion Sized (take n ls) → list_said m ks ≡ list_said n ls → (m ≡ n) × (take m ks ≡ take n ls)
   -- so at every list of every file, since the numbers of a game that is played from bytes have 64 bits
   pub in_files : (xs : List ℕ) → Bytes xs → length xs < 2 ^ 64 → (cs ds : List Command) (g : Game) → (reading xs).commands ≡ cs ++ (Lines ∷ ds) → game_after cs None ≡ Some g → ListsAt xs cs g

@@ -5,7 +5,7 @@
 --     founding kind n k v     what a make comes to
 --     answer g cmd            the words of a command and the game after it; g is the game before, if one is made
 --     text cs g k stop        the text of commands from the game g, the first with the number k, and of the refusal that ends the run
---     answered a xs k         the text of a command with the number k that came to a, and of the bytes xs behind it
+--     answered, left_after    the text of a command and of what follows it; of what follows it alone
 --     account xs              the text of a file with the bytes xs
 use Rattle.std.specs.Prelude.{ℕ, suc, ◌+◌, Bool, true, false, cond, List, [], ◌∷◌, ◌++◌, replicate, Some, None, Ok, Err, codes, Option, Result, ◌==◌}
 use Rattle.std.proofs.Common.{leb→le}
@@ -89,8 +89,13 @@ text (c ∷ cs) g k stop = let a = answer g c in line k a.0 ++ text cs a.1 (suc 
 abbrev pub text_of : List ℕ → Option Game → ℕ → List ℕ
 text_of xs g k = text (reading xs).commands g k (reading xs).stop
 
+-- the text of a command with the number k that came to a, and of the bytes xs behind it
 abbrev pub answered : List ℕ × Option Game → List ℕ → ℕ → List ℕ
 answered a xs k = line k a.0 ++ text_of xs a.1 (k + 1)
+
+-- the text of the bytes xs behind the command with the number k, unless the whole is written
+abbrev pub left_after : Bool → List ℕ → ℕ → List ℕ
+left_after whole xs k = cond whole [] (text_of xs None (k + 1))
 
 abbrev pub account : List ℕ → List ℕ
 account xs = text_of xs None 1

@@ -1,3 +1,4 @@
 // The command file: commands, their bytes, and back.
+#![tactic(auto)]
 pub mod command;
 pub mod decode;

@@ -7,7 +7,8 @@ use Rattle.policy.specs.declared.refusal.Refusal.{Refusal}
 use Rattle.banks.specs.Meanings.{Meaning, inside, filled, read}
 use Rattle.layers.specs.Changes.{changed, under}
 use Rattle.layers.specs.Layers.{deepen, deepened, renumbered, sunk}
-use Rattle.layers.specs.Numberings.{number_at, position_at, number_for, position_for}
+use Rattle.layers.specs.Numberings.{number_at, position_at}
+use Rattle.layers.specs.Renumberings.{fitting}
 use Rattle.layers.specs.Permutations.{look}
 use Rattle.layers.specs.declared.change.Change.{Change}
 use Rattle.layers.specs.declared.change.Change.TheVariants.{Start, Finish, Mark}
@@ -16,9 +17,16 @@ use Rattle.layers.proofs.Layers.{Renumbers, read_laid, changed_laid, filled_laid
 use Rattle.layers.proofs.Permuting.{renumbers}
 use Rattle.layers.proofs.Stations.{changed_stations}
 
+-- the numbers of a permutation, and its positions, for a bank of n stations
+abbrev pub number_for : Permutation → ℕ → ℕ → ℕ
+number_for p n = fitting p.size n (number_at p)
+
+abbrev pub position_for : Permutation → ℕ → ℕ → ℕ
+position_for p n = fitting p.size n (position_at p)
+
 -- a permutation and its way back renumber every bank
 permutation_renumbers : (p : Permutation) (n : ℕ) → Renumbers n (number_for p n) (position_for p n)
-unfolding number_for position_for
+unfolding fitting
 permutation_renumbers p n = go (leb p.size n) (leb-true p.size n)
   where
     go : (t : Bool) → (t ≡ true → p.size ≤ n) → Renumbers n (λ x. cond t (number_at p x) x) (λ x. cond t (position_at p x) x)
@@ -92,15 +100,11 @@ there_and_back {R} m p q s =
 -- what has the positions of p as its numbers, and p's numbers as its positions, undoes p
 pub undoes : {R : Type 0} (p i : Permutation) → i.size ≡ p.size → i.numbers ≡ p.positions → i.positions ≡ p.numbers → (m : Meaning R)
     → renumbered (number_for i m.stations) (position_for i m.stations) (renumbered (number_for p m.stations) (position_for p m.stations) m) ≡ sunk (sunk m)
-unfolding number_for position_for
 undoes {R} p i same there back m =
     ap (λ k. over k i.numbers i.positions) same
     ∙ ap (λ xs. over p.size xs i.positions) there
     ∙ ap (over p.size p.positions) back
     ∙ there_and_back m (number_for p m.stations) (position_for p m.stations) (permutation_renumbers p m.stations)
   where
-    fitting : ℕ → List ℕ → ℕ → ℕ
-    fitting k xs x = cond (leb k m.stations) (look k xs x) x
-
     over : ℕ → List ℕ → List ℕ → Meaning R
-    over k xs ys = renumbered (fitting k xs) (fitting k ys) (renumbered (number_for p m.stations) (position_for p m.stations) m)
+    over k xs ys = renumbered (fitting k m.stations (look k xs)) (fitting k m.stations (look k ys)) (renumbered (number_for p m.stations) (position_for p m.stations) m)

@@ -1,27 +1,31 @@
 -- What a renumbering layer means, and what making one answers. Assumes nothing.
---     number_below f s x              over a bank that means what f says: the number below of the station x above the layer s
---     position_above f s x            the station above whose number below is x
---     renumbering_meaning f s         the meaning of the layer s
+--     fitting k n p                   the numbers p of k stations, for a bank of n: its own numbers, should k be above n
+--     number_below, position_above    the number below of a station above, and back
+--     renumbering_meaning f s         the meaning of the layer s over a bank that means what f says
 --     renumbering_seen a              what making a layer answered: the bank, the size and the numbers
 --     renumbering_made n b xs         over a bank b of n stations, by the list xs: refused by 6
-use Rattle.std.specs.Prelude.{ℕ, cond, List, Ok, Err, Result}
+use Rattle.std.specs.Prelude.{ℕ, cond, List, Ok, Err, Result, nat_le}
 use Rattle.policy.specs.declared.refusal.Refusal.{Refusal}
 use Rattle.policy.specs.declared.refusal.Refusal.TheVariants.{NotRenumbering}
 use Rattle.banks.specs.Meanings.{Meaning}
 use Rattle.layers.specs.Layers.{renumbered}
 use Rattle.layers.specs.Permutations.{look, listed}
-use Rattle.layers.specs.Numberings.{number_at, number_for, position_for}
+use Rattle.layers.specs.Numberings.{number_at, position_at}
 use Rattle.layers.specs.declared.renumbering.Renumbering.{Renumbering}
 
-module _ {B : Type 0} where
-  abbrev pub number_below : {R : Type 0} → (B → Meaning R) → Renumbering B → ℕ → ℕ
-  number_below f s = number_for s.map (f s.below).stations
+-- folded, so that a search takes it as one term
+unfoldable pub fitting : ℕ → ℕ → (ℕ → ℕ) → ℕ → ℕ
+fitting k n p x = cond (nat_le k n) (p x) x
 
-  abbrev pub position_above : {R : Type 0} → (B → Meaning R) → Renumbering B → ℕ → ℕ
-  position_above f s = position_for s.map (f s.below).stations
+module _ {B : Type 0} where
+  abbrev pub number_below : Renumbering B → ℕ → ℕ → ℕ
+  number_below s n = fitting s.map.size n (number_at s.map)
+
+  abbrev pub position_above : Renumbering B → ℕ → ℕ → ℕ
+  position_above s n = fitting s.map.size n (position_at s.map)
 
   abbrev pub renumbering_meaning : {R : Type 0} → (B → Meaning R) → Renumbering B → Meaning R
-  renumbering_meaning f s = renumbered (number_below f s) (position_above f s) (f s.below)
+  renumbering_meaning f s = renumbered (number_below s (f s.below).stations) (position_above s (f s.below).stations) (f s.below)
 
   abbrev pub renumbering_seen : Result (Renumbering B) (Refusal × B) → Result (B × ℕ × (ℕ → ℕ)) (Refusal × B)
   renumbering_seen (Ok s) = Ok (s.below, s.map.size, number_at s.map)

@@ -16,8 +16,8 @@ module _ {B C : Type 0} where
   abbrev pub first_of : {R : Type 0} → (B → Meaning R) → (C → Meaning R) → Split B C → ℕ → Bool
   first_of f g s = in_first s.point (f s.first) (g s.second)
 
-  abbrev pub split_made : ℕ → ℕ → B → C → ℕ → Result (Split B C) (Refusal × B × C)
-  split_made n m b c k =
-      cond (n == m)
-      (cond (nat_le k n) (Ok (record { first = b; second = c; point = k })) (Err (SplitPoint, b, c)))
-      (Err (CountsDiffer, b, c))
+abbrev pub split_made : {B C : Type 0} → ℕ → ℕ → B → C → ℕ → Result (Split B C) (Refusal × B × C)
+split_made n m b c k =
+    cond (n == m)
+    (cond (nat_le k n) (Ok (record { first = b; second = c; point = k })) (Err (SplitPoint, b, c)))
+    (Err (CountsDiffer, b, c))

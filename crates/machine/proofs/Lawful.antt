@@ -1,6 +1,6 @@
 -- From the invariant to the law. Assumes nothing.
 use Rattle.std.proofs.Common.{◌≡◌, ℕ, ◌+◌, ◌*◌, ◌<◌, ◌≤◌, true, false, ◌↔◌, List, Some, None, Option, unwrap_or, sym, refl, ap, ◌∙◌, subst, ⊎_elim, arith}
-use Rattle.std.specs.List.{AllByRecursion as All}
+use Rattle.std.specs.List.{AllByRecursion}
 use Rattle.std.proofs.lemmas.Bool.{cases_order}
 use Rattle.stamps.specs.Makes.{Make, Laws}
 use Rattle.machine.specs.Machines.{Machine}
@@ -144,7 +144,7 @@ module _ {S V : Type 0} (m : Make S) (laws : Laws m) (M : Machine S V) (b : Book
       sound : Sound m M.stations M.moment k (ent k)
       sound = kept.inv.sound k hi
 
-  pub lawful : All (Clean M.stations) notes → Law m h
+  pub lawful : AllByRecursion (Clean M.stations) notes → Law m h
   lawful clean =
       record {
         same_stamp = same_stamp;

@@ -1,6 +1,6 @@
 -- Every call and every run keeps what is kept. Assumes nothing.
 use Rattle.std.proofs.Common.{ℕ, Bool, List, [], ◌∷◌, Some, None, Ok, Result, refl, subst}
-use Rattle.std.specs.List.{AllByRecursion as All}
+use Rattle.std.specs.List.{AllByRecursion}
 use Rattle.std.proofs.lemmas.Bool.{cond_both}
 use Rattle.policy.specs.declared.refusal.Refusal.{Refusal}
 use Rattle.banks.specs.declared.record.Record.{Record}
@@ -34,7 +34,7 @@ module _ {S V : Type 0} (m : Make S) (laws : Laws m) where
   act_kept old M b (step_call s choice) k = step_kept laws k s choice
   act_kept old M b (mark_call w r up) k = (tt, mark_kept old M b w r up k)
 
-  pub play_kept : (calls : List (Call V)) (old M : Machine S V) (b : Book S V) → Kept m old M b → All (Clean old.stations) (play (act m) M calls).0 × Kept m old (play (act m) M calls).1 (observed old.stations b (play (act m) M calls).0)
+  pub play_kept : (calls : List (Call V)) (old M : Machine S V) (b : Book S V) → Kept m old M b → AllByRecursion (Clean old.stations) (play (act m) M calls).0 × Kept m old (play (act m) M calls).1 (observed old.stations b (play (act m) M calls).0)
   play_kept [] old M b k = (tt, k)
   play_kept (c ∷ cs) old M b k =
       let one = subst (λ n. Clean n (act m M c).0 × Kept m old (act m M c).1 (note n b (act m M c).0)) k.told.same_stations (act_kept old M b c k) in

@@ -1,6 +1,6 @@
 -- The law of every run. Assumes nothing.
 use Rattle.std.proofs.Common.{ℕ, sym, subst}
-use Rattle.std.specs.List.{AllByRecursion as All}
+use Rattle.std.specs.List.{AllByRecursion}
 use Rattle.banks.specs.declared.record.Record.{Record}
 use Rattle.stamps.specs.Makes.{Make, Laws}
 use Rattle.machine.specs.Machines.{Machine}
@@ -19,5 +19,5 @@ law_of_runs {S} {V} m laws bank n k v lines size M made calls =
     let book = observed M.stations empty_book notes in
     let at : ℕ → Record S V → History S V = λ q x. record { stations = q; origin = x; notes = notes; book = book; moment = N.moment; before = M.lines; lines = N.lines; used = N.used } in
     let told = p.1.told in
-    let clean = subst (λ q. All (Clean q) notes) (sym told.same_stations) p.0 in
+    let clean = subst (λ q. AllByRecursion (Clean q) notes) (sym told.same_stations) p.0 in
     subst (λ q. Law m (at q M.origin)) told.same_stations (subst (λ x. Law m (at N.stations x)) told.same_origin (lawful m laws N book notes p.1 clean))

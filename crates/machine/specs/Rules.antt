@@ -9,7 +9,7 @@
 --     RefusalsLeave V m  a refused call changes nothing, unless the refusal is 14
 use Rattle.std.specs.Prelude.{◌≡◌, ℕ, ◌-◌, ◌*◌, ◌<◌, ◌≤◌, true, false, cond, ◌↔◌, List, Some, None, Ok, Err, Option, ◌==◌, ◌≢◌, nat_le}
 use Rattle.std.specs.Option.{unwrap_or}
-use Rattle.std.specs.List.{AllByRecursion as All, slice_get}
+use Rattle.std.specs.List.{AllByRecursion, slice_get}
 use Rattle.policy.specs.Refusals.{number_of}
 use Rattle.policy.specs.declared.refusal.Refusal.{Refusal}
 use Rattle.banks.specs.declared.record.Record.{Record}
@@ -165,7 +165,7 @@ module _ {S V : Type 0} where
     pub accounts : (k : ℕ) → 1 ≤ k → k ≤ h.book.count → Accounted h.stations h.lines k (h.book.operation k)
     -- the lines not in use keep what they held
     pub rest : (k : ℕ) → h.used ≤ k → slice_get h.lines k ≡ slice_get h.before k
-    pub clean : All (Clean h.stations) h.notes
+    pub clean : AllByRecursion (Clean h.stations) h.notes
 
 -- for every bank of n stations, 1 to 16; every starting count k up to the greatest; every starting value; every journal of
 -- at least size lines, size up to 4096; and every list of calls, with every choice

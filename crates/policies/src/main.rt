@@ -1,4 +1,5 @@
 // Registers of policies at work: prints each call with its answer, and the journals as they then stand.
+#![tactic(auto)]
 mod account;
 mod calls;
 mod pile;

@@ -14,7 +14,7 @@ use Rattle.machine.specs.declared.row.Row.{Row}
 use Rattle.machine.specs.declared.row.Row.TheVariants.{Busy, Idle}
 use Rattle.machine.specs.declared.row.Stepped.{Stepped}
 use Rattle.machine.specs.declared.row.Stepped.TheVariants.{Going, Done}
-use Rattle.register.specs.CellWork.{accepted, collected_by, collect_cell, spread_cell}
+use Rattle.register.specs.CellWork.{accepted, taken_by, collect_into, spread_cell}
 use Rattle.register.specs.Seen.{seen}
 use Rattle.register.specs.declared.register.Register.{Register}
 
@@ -59,7 +59,7 @@ module _ {S V : Type 0} where
       }
 
   -- an accepted read of a cell, and a refused one
-  collect_ok : (m : Make S) (l met : Line S V) (u : Unit {0}) (a : Result (Record S V) Refusal) → Ok u ≡ accepted a → met ≡ collected_by m l a → (x : Record S V) × (a ≡ Ok x) × (met ≡ collected m l x)
+  collect_ok : (m : Make S) (l met : Line S V) (u : Unit {0}) (a : Result (Record S V) Refusal) → Ok u ≡ accepted a → met ≡ taken_by m l a → (x : Record S V) × (a ≡ Ok x) × (met ≡ collected m l x)
   collect_ok m l met u (Ok x) e is = (x, refl, is)
   collect_ok m l met u (Err y) e is = let z : ◌≡◌ {A = ℕ} 0 1 = cc in absurd (omega arith)
 
@@ -94,7 +94,7 @@ module _ {S V : Type 0} where
     going_with b ls = (Ok Going, next_machine M b ls M.used s (Busy i (c + 1)))
 
     abbrev ReadAs : Result (Unit {0}) Refusal → Line S V → Type 0
-    ReadAs a met = ◌≡◌ {A = Result (Unit {0}) Refusal × Line S V × Meaning (Record S V)} (a, met, bank) (collect_cell m M.bank p.choice (c + 1) s l)
+    ReadAs a met = ◌≡◌ {A = Result (Unit {0}) Refusal × Line S V × Meaning (Record S V)} (a, met, bank) (collect_into m M.bank p.choice (c + 1) s l)
 
     found : (met : Line S V) (u : Unit {0}) → ReadAs (Ok u) met → (x : Record S V) × ((read M.bank p.choice (c + 1) s).0 ≡ Ok x) × (met ≡ collected m l x)
     found met u is = collect_ok m l met u _ (ap (λ q. q.0) is) (ap (λ q. q.1) is)

@@ -4,7 +4,7 @@ ghost use Rattle.policy.specs.declared.refusal.Refusal.{Refusal};
 ghost use Rattle.banks.specs.Meanings.{Meaning};
 ghost use Rattle.banks.specs.declared.record.Record.{Record};
 ghost use Rattle.machine.specs.declared.line.Line.{Line};
-ghost use Rattle.register.specs.CellWork.{collect_cell, spread_cell};
+ghost use Rattle.register.specs.CellWork.{collect_cell, collect_into, spread_cell};
 
 use banks::bank::Bank;
 use banks::record::Record;
@@ -12,14 +12,28 @@ use machine::line::{Kind, Line};
 use policy::refusal::Refusal;
 use stamps::Stamp;
 
-// Reads the cell of a writer into the line of the station that reads it: the line takes a greater stamp, and a read's line its value too.
+// Reads the cell of a writer, and gives the line of the station that reads it: with the greater stamp, and a read's with its value.
 pub fn collect<S: Stamp, V: Copy, B: Bank<Record<S, V>>>(
+    bank: &mut B,
+    writer: u8,
+    station: u8,
+    line: Line<S, V>,
+) -> Result<Line<S, V>, Refusal>
+    ensures { ◌≡◌ {A = Result (Line S V) Refusal × Meaning (Record S V)} (result, B.Bank.meaning bank.new) (collect_cell S.Stamp.make (B.Bank.meaning bank.old) (B.Bank.chooses bank.old writer station) writer station line) }
+{
+    let mut met = line;
+    collect_into(bank, writer, station, &mut met)?;
+    Ok(met)
+}
+
+// Reads the cell of a writer into the line of the station that reads it: the line takes a greater stamp, and a read's line its value too.
+pub(crate) fn collect_into<S: Stamp, V: Copy, B: Bank<Record<S, V>>>(
     bank: &mut B,
     writer: u8,
     station: u8,
     line: &mut Line<S, V>,
 ) -> Result<(), Refusal>
-    ensures { ◌≡◌ {A = Result (Unit {0}) Refusal × Line S V × Meaning (Record S V)} (result, line.new, B.Bank.meaning bank.new) (collect_cell S.Stamp.make (B.Bank.meaning bank.old) (B.Bank.chooses bank.old writer station) writer station line.old) }
+    ensures { ◌≡◌ {A = Result (Unit {0}) Refusal × Line S V × Meaning (Record S V)} (result, line.new, B.Bank.meaning bank.new) (collect_into S.Stamp.make (B.Bank.meaning bank.old) (B.Bank.chooses bank.old writer station) writer station line.old) }
 {
     let met = bank.read(writer, station)?;
     if line.stamp.smaller(&met.tag) {

@@ -5,7 +5,7 @@ use Rattle.std.proofs.lemmas.Bool.{le-leb, and_from, cond_both, cond-true, cond-
 use Rattle.banks.specs.Meanings.{inside, known}
 use Rattle.table_banks.specs.Cells.{cell}
 use Rattle.banks.specs.Marks.{is_up}
-use Rattle.table_banks.specs.Notes.{Noted, Homed, listed_reader, marked_up, noting, seen, fresh, with_reader, with_mark}
+use Rattle.table_banks.specs.Notes.{Noted, Homed, noting, seen, fresh, with_reader, with_mark}
 use Rattle.table_banks.specs.declared.notes.Notes.{Notes}
 use Rattle.table_banks.proofs.Placing.{known_bounds, cell_below, cell_test, get_d_set, known_other}
 use Rattle.banks.specs.declared.bank.Mark.{Mark}
@@ -25,7 +25,6 @@ getD_alike (suc n) zero x = refl
 getD_alike (suc n) (suc i) x = getD_alike n i x
 
 pub fresh_noting : (n : ℕ) → noting n (replicate 16 None) (replicate 256 Up) ≡ fresh n
-unfolding listed_reader marked_up
 fresh_noting n =
     same_noted (noting n (replicate 16 None) (replicate 256 Up)) (fresh n) refl
     (λ w. ap (λ o. cond (inside n w) o None) (getD_alike 16 (w - 1) None) ∙ cond_same (inside n w) None)
@@ -47,7 +46,6 @@ pub within_set : (n : ℕ) (xs : List (Option ℕ)) (k : ℕ) (o : Option ℕ) �
 within_set n xs k o all new i r e = ⊎_elim (λ p. new r (sym p ∙ e)) (λ p. all i r (sym p ∙ e)) (set_cases xs k i o None)
 
 pub noting_reader : (n : ℕ) (xs : List (Option ℕ)) (ms : List Mark) (w : ℕ) (o : Option ℕ) → inside n w ≡ true → n ≤ length xs → noting n (set xs (w - 1) o) ms ≡ with_reader (noting n xs ms) w o
-unfolding listed_reader
 noting_reader n xs ms w o h room =
     same_noted (noting n (set xs (w - 1) o) ms) (with_reader (noting n xs ms) w o) refl at (λ v q. refl)
   where
@@ -69,7 +67,6 @@ noting_reader n xs ms w o h room =
         (λ e. there v (eqb-false v w e) (inside n v) refl)
 
 pub noting_mark : (n : ℕ) (xs : List (Option ℕ)) (ms : List Mark) (w r : ℕ) (m : Mark) → known n w r ≡ true → n ≤ 16 → 256 ≤ length ms → noting n xs (set ms (cell 16 w r) m) ≡ with_mark (noting n xs ms) w r (is_up m)
-unfolding marked_up
 noting_mark n xs ms w r m h few room =
     same_noted (noting n xs (set ms (cell 16 w r) m)) (with_mark (noting n xs ms) w r (is_up m)) refl (λ v. refl) at
   where
@@ -88,7 +85,6 @@ noting_mark n xs ms w r m h few room =
 
 -- a cell that is noted open is a cell
 pub noted_home : (k : Notes) (w r : ℕ) → (seen k).reader w ≡ Some r → known k.count w r ≡ true
-unfolding listed_reader
 noted_home k w r = go (inside k.count w) refl
   where
     go : (t : Bool) → inside k.count w ≡ t → cond t (get_or k.readers (w - 1) None) None ≡ Some r → known k.count w r ≡ true

@@ -1,4 +1,6 @@
 // The banks at the bottom of a pile, over tables that are handed in: the board and the post.
+#![tactic(auto)]
+
 pub mod board;
 mod cell;
 mod notes;

@@ -3,7 +3,7 @@
 --     run n k cs          the notes of the calls cs on a new register of n stations with pair stamps, from count k and value 7, and the last machine
 --     notes run           the calls with their answers
 --     held run i          the stamp's count and owner, the value and the state in line i
---     told n k cs i       of operation i in that run, if it is stamped: kind, opened, stamped and ended moments, the stamp's count and owner, value
+--     told n k cs i       of operation i in the run of the same calls over a journal of 4 lines, if it is stamped: kind, opened, stamped and ended moments, the stamp's count and owner, value
 use Rattle.std.specs.Prelude.{◌≡◌, ℕ, zero, suc, ◌-◌, Bool, true, false, List, [], ◌∷◌, replicate, Some, None, Ok, Err, Option, Result}
 use Rattle.std.specs.List.{slice_get}
 use Rattle.policy.specs.declared.refusal.Refusal.{Refusal}
@@ -53,7 +53,7 @@ abbrev made : ℕ → ℕ → Result (Machine PairStamp ℕ) Refusal
 made n k = make pair_make (bottom n) n k 7 (replicate 4 unused) 4
 
 abbrev run : ℕ → ℕ → List (Call ℕ) → Run
-run n k calls = from (made n k) calls
+run n k calls = from (make pair_make (bottom n) n k 7 (replicate 2 unused) 2) calls
 
 abbrev notes : Run → Option (List (Note PairStamp ℕ))
 notes None = None

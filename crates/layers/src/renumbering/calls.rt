@@ -49,8 +49,8 @@ impl<B> Renumbering<B> {
 
 // The number below of a station above. It is a station below where that is one above.
 fn below_of<R: Copy, B: Bank<R>>(layer: &Renumbering<B>, station: u8) -> u8
-    ensures number { result ≡ number_below B.Bank.meaning layer.now station }
-    ensures back { position_above B.Bank.meaning layer.now result ≡ station }
+    ensures number { result ≡ number_below layer.now (B.Bank.meaning layer.now.below).stations station }
+    ensures back { position_above layer.now (B.Bank.meaning layer.now.below).stations result ≡ station }
     ensures stays { inside (B.Bank.meaning layer.now.below).stations result ≡ inside (B.Bank.meaning layer.now.below).stations station }
 {
     if layer.map.size() <= layer.below.stations() {
@@ -76,7 +76,7 @@ fn fill_below<R: Copy, B: Bank<R>>(layer: &mut Renumbering<B>, x: R)
 
 // Reads a cell below: of the layer, the cell of the stations that have those numbers below.
 fn read_below<R: Copy, B: Bank<R>>(layer: &mut Renumbering<B>, w: u8, r: u8) -> Result<R, Refusal>
-    ensures { ◌≡◌ {A = Result R Refusal × Meaning R} (result, renumbering_meaning B.Bank.meaning layer.new) (reads (renumbering_meaning B.Bank.meaning layer.old) (B.Bank.chooses layer.old.below w r) (position_above B.Bank.meaning layer.old w) (position_above B.Bank.meaning layer.old r)) }
+    ensures { ◌≡◌ {A = Result R Refusal × Meaning R} (result, renumbering_meaning B.Bank.meaning layer.new) (reads (renumbering_meaning B.Bank.meaning layer.old) (B.Bank.chooses layer.old.below w r) (position_above layer.old (B.Bank.meaning layer.old.below).stations w) (position_above layer.old (B.Bank.meaning layer.old.below).stations r)) }
 {
     deepen_answer(layer.below.read(w, r))
 }
@@ -86,7 +86,7 @@ fn change_below<R: Copy, B: Bank<R>>(
     layer: &mut Renumbering<B>,
     change: Change<R>,
 ) -> Result<(), Refusal>
-    ensures { ◌≡◌ {A = Result (Unit {0}) Refusal × Meaning R} (result, renumbering_meaning B.Bank.meaning layer.new) (changed (under (position_above B.Bank.meaning layer.old) change) (renumbering_meaning B.Bank.meaning layer.old)) }
+    ensures { ◌≡◌ {A = Result (Unit {0}) Refusal × Meaning R} (result, renumbering_meaning B.Bank.meaning layer.new) (changed (under (position_above layer.old (B.Bank.meaning layer.old.below).stations) change) (renumbering_meaning B.Bank.meaning layer.old)) }
 {
     deepen_answer(change_bank(&mut layer.below, change))
 }
@@ -94,7 +94,7 @@ fn change_below<R: Copy, B: Bank<R>>(
 impl<R: Copy, B: Bank<R>> Bank<R> for Renumbering<B> {
     ghost meaning = { renumbering_meaning B.Bank.meaning };
 
-    ghost chooses = { λ s w r. B.Bank.chooses s.below (number_below B.Bank.meaning s w) (number_below B.Bank.meaning s r) };
+    ghost chooses = { λ s w r. B.Bank.chooses s.below (number_below s (B.Bank.meaning s.below).stations w) (number_below s (B.Bank.meaning s.below).stations r) };
 
     ghost stationed = { Prim.search rules };
 

@@ -3,6 +3,7 @@ ghost use Rattle.std.specs.Prelude.{◌≡◌, true, false, if◌then◌else◌,
 ghost use Rattle.policy.specs.declared.refusal.Refusal.{Refusal};
 ghost use Rattle.banks.specs.Meanings.{Meaning};
 ghost use Rattle.layers.specs.Changes.{changed, writer_in};
+ghost use Rattle.layers.specs.Layers.{in_first, split_meaning};
 ghost use Rattle.layers.specs.Splits.{split_of, first_of, split_made};
 ghost use Rattle.std.proofs.Common.{rules};
 
@@ -49,7 +50,7 @@ impl<B, C> Split<B, C> {
 
 // Whether a writer's cells lie in the first bank.
 fn lies_first<R: Copy, B: Bank<R>, C: Bank<R>>(split: &Split<B, C>, writer: u8) -> bool
-    ensures { result ≡ first_of B.Bank.meaning C.Bank.meaning split.now writer }
+    ensures { result ≡ in_first split.now.point (B.Bank.meaning split.now.first) (C.Bank.meaning split.now.second) writer }
 {
     writer <= split.point || split.first.stations() != split.second.stations()
 }
@@ -77,9 +78,9 @@ fn change_second<R: Copy, B: Bank<R>, C: Bank<R>>(
 }
 
 impl<R: Copy, B: Bank<R>, C: Bank<R>> Bank<R> for Split<B, C> {
-    ghost meaning = { split_of B.Bank.meaning C.Bank.meaning };
+    ghost meaning = { λ s. split_meaning s.point (B.Bank.meaning s.first) (C.Bank.meaning s.second) };
 
-    ghost chooses = { λ s w r. (if first_of B.Bank.meaning C.Bank.meaning s w then B.Bank.chooses s.first w r else C.Bank.chooses s.second w r) };
+    ghost chooses = { λ s w r. (if in_first s.point (B.Bank.meaning s.first) (C.Bank.meaning s.second) w then B.Bank.chooses s.first w r else C.Bank.chooses s.second w r) };
 
     ghost stationed = { Prim.search rules };
 

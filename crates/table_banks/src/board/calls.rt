@@ -3,7 +3,7 @@ ghost use Rattle.std.specs.Prelude.{◌≡◌, ◌*◌, ◌<◌, ◌≤◌, true
 ghost use Rattle.std.specs.List.{slice_get};
 ghost use Rattle.std.specs.Option.{option_map};
 ghost use Rattle.policy.specs.declared.refusal.Refusal.{Refusal};
-ghost use Rattle.banks.specs.Meanings.{Meaning, known, filled, started, finished, read as reads, start as starts, finish as finishes, mark as marks};
+ghost use Rattle.banks.specs.Meanings.{Meaning, known, filled, started, finished, marked, read as reads, start as starts, finish as finishes, mark as marks};
 ghost use Rattle.banks.specs.Marks.{is_up};
 ghost use Rattle.table_banks.specs.Notes.{Homed, fresh};
 ghost use Rattle.table_banks.specs.Bottoms.{making, filling};
@@ -113,6 +113,15 @@ impl<R: Copy> Board<R> {
         put_settled(&mut self.lines, i, x);
         self.notes.note_reader(writer, None);
     }
+
+    // A cell is reachable or not.
+    fn put_mark(&mut self, writer: u8, reader: u8, mark: Mark)
+        requires { known self.old.notes.count writer reader ≡ true }
+        ensures after { board_meaning self.new ≡ marked (board_meaning self.old) writer reader (is_up mark) }
+        ensures kept { board_spare self.new ≡ board_spare self.old }
+    {
+        self.notes.note_mark(writer, reader, mark);
+    }
 }
 
 impl<R: Copy> Bank<R> for Board<R> {
@@ -179,7 +188,7 @@ impl<R: Copy> Bank<R> for Board<R> {
         ensures kept { board_spare self.new ≡ board_spare self.old }
     {
         self.place(writer, reader)?;
-        self.notes.note_mark(writer, reader, mark);
+        self.put_mark(writer, reader, mark);
         Ok(())
     }
 

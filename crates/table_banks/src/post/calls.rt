@@ -2,7 +2,7 @@
 ghost use Rattle.std.specs.Prelude.{◌≡◌, ◌<◌, ◌≤◌, true, false, drop, vec_len, Result};
 ghost use Rattle.std.specs.Option.{option_map};
 ghost use Rattle.policy.specs.declared.refusal.Refusal.{Refusal};
-ghost use Rattle.banks.specs.Meanings.{Meaning, inside, known, filled, started, finished, read as reads, start as starts, finish as finishes, mark as marks};
+ghost use Rattle.banks.specs.Meanings.{Meaning, inside, known, filled, started, finished, marked, read as reads, start as starts, finish as finishes, mark as marks};
 ghost use Rattle.banks.specs.Marks.{is_up};
 ghost use Rattle.table_banks.specs.Notes.{Homed, fresh};
 ghost use Rattle.table_banks.specs.Bottoms.{making, filling};
@@ -99,6 +99,15 @@ impl<R: Copy> Post<R> {
         put_line(&mut self.lines, i, x);
         self.notes.note_reader(writer, None);
     }
+
+    // A cell is reachable or not.
+    fn put_mark(&mut self, writer: u8, reader: u8, mark: Mark)
+        requires { known self.old.notes.count writer reader ≡ true }
+        ensures after { post_meaning self.new ≡ marked (post_meaning self.old) writer reader (is_up mark) }
+        ensures kept { post_spare self.new ≡ post_spare self.old }
+    {
+        self.notes.note_mark(writer, reader, mark);
+    }
 }
 
 impl<R: Copy> Bank<R> for Post<R> {
@@ -161,7 +170,7 @@ impl<R: Copy> Bank<R> for Post<R> {
         ensures kept { post_spare self.new ≡ post_spare self.old }
     {
         self.place(writer, reader)?;
-        self.notes.note_mark(writer, reader, mark);
+        self.put_mark(writer, reader, mark);
         Ok(())
     }
 

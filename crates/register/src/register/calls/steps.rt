@@ -14,7 +14,7 @@ ghost use Rattle.register.specs.Seen.{seen};
 ghost use Rattle.register.specs.Single.{Single};
 ghost use Rattle.register.specs.Stages.{choice_at};
 
-use crate::cells::{collect, spread};
+use crate::cells::{collect_into, spread};
 use crate::register::Register;
 use banks::bank::Bank;
 use banks::record::Record;
@@ -72,17 +72,17 @@ impl<S: Stamp, V: Copy> Register<S, V> {
     {
         match (Stage::at(progress, self.stations), line.kind) {
             (Stage::Collecting, _) => {
-                collect(bank, progress as u8 + 1, station, &mut line)?;
+                collect_into(bank, progress as u8 + 1, station, &mut line)?;
                 self.keep(journal, station, number, progress, line);
                 Ok(Stepped::Going)
             }
             (Stage::Stamping, Kind::Read) => {
-                collect(bank, progress as u8 + 1, station, &mut line)?;
+                collect_into(bank, progress as u8 + 1, station, &mut line)?;
                 self.stamp_read(journal, station, number, progress, line);
                 Ok(Stepped::Going)
             }
             (Stage::Stamping, Kind::Write) => {
-                collect(bank, progress as u8 + 1, station, &mut line)?;
+                collect_into(bank, progress as u8 + 1, station, &mut line)?;
                 self.stamp_write(journal, station, number, progress, line)
             }
             (Stage::Starting, _) => {

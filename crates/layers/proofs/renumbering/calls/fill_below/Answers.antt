@@ -1,7 +1,6 @@
 use Rattle.std.proofs.Common.{ap, ◌∙◌}
 use Rattle.layers.specs.Layers.{renumbered}
-use Rattle.layers.specs.Numberings.{number_for, position_for}
-use Rattle.layers.proofs.Renumberings.{fill_through}
+use Rattle.layers.proofs.Renumberings.{number_for, position_for, fill_through}
 use Rattle.layers.proofs.renumbering.calls.fill_below.Goals as goal
 
 pub returns : goal.returns

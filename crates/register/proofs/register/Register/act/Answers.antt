@@ -6,23 +6,23 @@ use Rattle.register.proofs.Stages.{at_stage}
 use Rattle.register.proofs.Ties.{point_of, broken, moved, collecting_tied, read_tied, unread_tied, starting_tied, finishing_tied, ending_tied, unfinished_tied}
 use Rattle.register.proofs.register.Register.act.Goals as goal
 
-pub returns-in_err-collect-in-Collecting-default : goal.returns-in_err-collect-in-Collecting-default
-returns-in_err-collect-in-Collecting-default g c =
+pub returns-in_err-collect_into-in-Collecting-default : goal.returns-in_err-collect_into-in-Collecting-default
+returns-in_err-collect_into-in-Collecting-default g c =
     let p = point_of g.S.Stamp.make g.B.Bank.meaning g.B.Bank.chooses c.args.self.now c.args.bank.now c.args.journal.now.lines.now c.args.station c.args.number c.args.progress c.args.line in
     let at = at_stage p.machine.stations p.progress Collecting (sym c.at.ensures ∙ c.in-Collecting-default.is-0) in
-    record { call = broken _ _ _ _ c.from_residual.ensures.1 (unread_tied p _ _ _ (omega arith) c.in_err-collect-in-Collecting-default.ensures); lender = refl }
+    record { call = broken _ _ _ _ c.from_residual.ensures.1 (unread_tied p _ _ _ (omega arith) c.in_err-collect_into-in-Collecting-default.ensures); lender = refl }
 
-pub returns-in_err-collect-in-Stamping-Read : goal.returns-in_err-collect-in-Stamping-Read
-returns-in_err-collect-in-Stamping-Read g c =
+pub returns-in_err-collect_into-in-Stamping-Read : goal.returns-in_err-collect_into-in-Stamping-Read
+returns-in_err-collect_into-in-Stamping-Read g c =
     let p = point_of g.S.Stamp.make g.B.Bank.meaning g.B.Bank.chooses c.args.self.now c.args.bank.now c.args.journal.now.lines.now c.args.station c.args.number c.args.progress c.args.line in
     let at = at_stage p.machine.stations p.progress Stamping (sym c.at.ensures ∙ c.in-Stamping-Read.is-0) in
-    record { call = broken _ _ _ _ c.from_residual-in_err-collect-in-Stamping-Read.ensures.1 (unread_tied p _ _ _ (omega arith) c.in_err-collect-in-Stamping-Read.ensures); lender = refl }
+    record { call = broken _ _ _ _ c.from_residual-in_err-collect_into-in-Stamping-Read.ensures.1 (unread_tied p _ _ _ (omega arith) c.in_err-collect_into-in-Stamping-Read.ensures); lender = refl }
 
-pub returns-in_err-collect-in-Stamping-Write : goal.returns-in_err-collect-in-Stamping-Write
-returns-in_err-collect-in-Stamping-Write g c =
+pub returns-in_err-collect_into-in-Stamping-Write : goal.returns-in_err-collect_into-in-Stamping-Write
+returns-in_err-collect_into-in-Stamping-Write g c =
     let p = point_of g.S.Stamp.make g.B.Bank.meaning g.B.Bank.chooses c.args.self.now c.args.bank.now c.args.journal.now.lines.now c.args.station c.args.number c.args.progress c.args.line in
     let at = at_stage p.machine.stations p.progress Stamping (sym c.at.ensures ∙ c.in-Stamping-Write.is-0) in
-    record { call = broken _ _ _ _ c.from_residual-in_err-collect-in-Stamping-Write.ensures.1 (unread_tied p _ _ _ (omega arith) c.in_err-collect-in-Stamping-Write.ensures); lender = refl }
+    record { call = broken _ _ _ _ c.from_residual-in_err-collect_into-in-Stamping-Write.ensures.1 (unread_tied p _ _ _ (omega arith) c.in_err-collect_into-in-Stamping-Write.ensures); lender = refl }
 
 pub returns-in_err-finish-in-Finishing-default : goal.returns-in_err-finish-in-Finishing-default
 returns-in_err-finish-in-Finishing-default g c =
@@ -36,21 +36,21 @@ returns-in_err-finish-in-Ending-default g c =
     let at = at_stage p.machine.stations p.progress Ending (sym c.at.ensures ∙ c.in-Ending-default.is-0) in
     record { call = broken _ _ _ _ c.from_residual-in_err-finish-in-Ending-default.ensures.1 (unfinished_tied p _ at.0 at.1 _ c.in_err-finish-in-Ending-default.ensures); lender = refl }
 
-pub returns-in_ok-collect-in-Collecting-default : goal.returns-in_ok-collect-in-Collecting-default
-returns-in_ok-collect-in-Collecting-default g c =
+pub returns-in_ok-collect_into-in-Collecting-default : goal.returns-in_ok-collect_into-in-Collecting-default
+returns-in_ok-collect_into-in-Collecting-default g c =
     let p = point_of g.S.Stamp.make g.B.Bank.meaning g.B.Bank.chooses c.args.self.now c.args.bank.now c.args.journal.now.lines.now c.args.station c.args.number c.args.progress c.args.line in
     let at = at_stage p.machine.stations p.progress Collecting (sym c.at.ensures ∙ c.in-Collecting-default.is-0) in
     record {
-      call = ap (λ (N : Machine g.row.S.Denot g.row.V.Denot). (Ok Going, N)) (moved c.args.self.now c.keep.new.self p.machine.bank _ p.machine.lines _ _ p.station _ c.keep.ensures.row c.keep.ensures.after) ∙ collecting_tied p _ _ _ at c.in_ok-collect-in-Collecting-default.ensures;
+      call = ap (λ (N : Machine g.row.S.Denot g.row.V.Denot). (Ok Going, N)) (moved c.args.self.now c.keep.new.self p.machine.bank _ p.machine.lines _ _ p.station _ c.keep.ensures.row c.keep.ensures.after) ∙ collecting_tied p _ _ _ at c.in_ok-collect_into-in-Collecting-default.ensures;
       lender = c.keep.ensures.lender;
     }
 
-pub returns-in_ok-collect-in-Stamping-Read : goal.returns-in_ok-collect-in-Stamping-Read
-returns-in_ok-collect-in-Stamping-Read g c =
+pub returns-in_ok-collect_into-in-Stamping-Read : goal.returns-in_ok-collect_into-in-Stamping-Read
+returns-in_ok-collect_into-in-Stamping-Read g c =
     let p = point_of g.S.Stamp.make g.B.Bank.meaning g.B.Bank.chooses c.args.self.now c.args.bank.now c.args.journal.now.lines.now c.args.station c.args.number c.args.progress c.args.line in
     let at = at_stage p.machine.stations p.progress Stamping (sym c.at.ensures ∙ c.in-Stamping-Read.is-0) in
     record {
-      call = ap (λ (N : Machine g.row.S.Denot g.row.V.Denot). (Ok Going, N)) (moved c.args.self.now c.stamp_read.new.self p.machine.bank _ p.machine.lines _ _ p.station _ c.stamp_read.ensures.row c.stamp_read.ensures.after) ∙ read_tied p _ _ _ at c.in-Stamping-Read.is-1 c.in_ok-collect-in-Stamping-Read.ensures;
+      call = ap (λ (N : Machine g.row.S.Denot g.row.V.Denot). (Ok Going, N)) (moved c.args.self.now c.stamp_read.new.self p.machine.bank _ p.machine.lines _ _ p.station _ c.stamp_read.ensures.row c.stamp_read.ensures.after) ∙ read_tied p _ _ _ at c.in-Stamping-Read.is-1 c.in_ok-collect_into-in-Stamping-Read.ensures;
       lender = c.stamp_read.ensures.lender;
     }
 

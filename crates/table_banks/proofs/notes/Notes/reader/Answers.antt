@@ -1,14 +1,12 @@
 use Rattle.std.proofs.Common.{◌≡◌, ◌-◌, get_or, None, sym, ◌∙◌, rules}
-use Rattle.table_banks.specs.Notes.{seen, listed_reader}
+use Rattle.table_banks.specs.Notes.{seen}
 use Rattle.table_banks.proofs.Noting.{noted_home, homed_by}
 use Rattle.table_banks.proofs.notes.Notes.reader.Goals as goal
 
 pub returns-then-not-has : goal.returns-then-not-has
-unfolding listed_reader
 returns-then-not-has c = search rules
 
 pub returns : goal.returns
-unfolding listed_reader
 returns c =
     let k = c.args.self.now in
     let w = c.args.writer in
