@@ -8,7 +8,7 @@ use Rattle.banks.specs.Meanings.{Meaning}
 use Rattle.banks.specs.declared.record.Record.{Record}
 use Rattle.stamps.specs.Pairs.{pair_make}
 use Rattle.stamps.specs.declared.pair.PairStamp.{PairStamp}
-use Rattle.machine.specs.Machines.{Machine, row_of}
+use Rattle.machine.specs.Machines.{row_of}
 use Rattle.machine.specs.Steps.{step}
 use Rattle.machine.specs.declared.line.Line.{Line}
 use Rattle.machine.specs.declared.row.Stepped.{Stepped}

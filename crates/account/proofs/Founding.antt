@@ -1,5 +1,5 @@
 -- Which makes are accepted, over a bank that was just made. Assumes nothing.
-use Rattle.std.proofs.Common.{◌≡◌, ℕ, ◌+◌, ◌*◌, ◌≤◌, Bool, true, false, cond, leb, List, length, replicate, IfOk, Ok, Err, Result, sym, refl, ap, ◌∙◌, mul-le-mul, arith}
+use Rattle.std.proofs.Common.{◌≡◌, ℕ, ◌*◌, ◌≤◌, Bool, true, false, cond, leb, List, length, replicate, IfOk, Ok, Err, Result, sym, refl, ap, ◌∙◌, mul-le-mul, arith}
 use Rattle.std.proofs.lemmas.List.{length-replicate}
 use Rattle.std.proofs.lemmas.Bool.{le-leb, leb-true, and_parts, cond-false}
 use Rattle.policy.specs.declared.entry.PolicyNumber.{PolicyNumber}

@@ -9,13 +9,13 @@ use Rattle.stamps.specs.Makes.{Laws}
 use Rattle.stamps.specs.Pairs.{pair_make}
 use Rattle.stamps.specs.Keyed.{keyed_laws}
 use Rattle.stamps.specs.PairsLemmas.{pair_keyed}
-use Rattle.machine.specs.Runs.{Call, write_call, read_call, step_call, mark_call, act}
+use Rattle.machine.specs.Runs.{write_call, read_call, step_call, mark_call}
 use Rattle.machine.proofs.Whole.{law_of_runs}
 use Rattle.register.specs.Reach.{Reached}
 use Rattle.register.proofs.Reaching.{reaching}
 use Rattle.account.specs.Games.{Played, carried}
 use Rattle.account.specs.Laws.{game_after, Lawful}
-use Rattle.account.specs.Texts.{Game, empty_bank, blank, founding, founded_by, making, answer, game_answer}
+use Rattle.account.specs.Texts.{Game, empty_bank, blank, founding, founded_by, answer}
 use Rattle.account.specs.Words.{refusal_said}
 
 abbrev Run : Option Game → Type 0

@@ -1,12 +1,12 @@
 -- The text so far, and that of the bytes that are left. Assumes nothing.
-use Rattle.std.proofs.Common.{◌≡◌, ℕ, suc, ◌+◌, Bool, cond, leb, List, [], ◌∷◌, ◌++◌, length, Some, None, Ok, Err, Option, Result, sym, refl, ap, ◌∙◌, append_assoc, append-nil, add-one}
+use Rattle.std.proofs.Common.{◌≡◌, ℕ, ◌+◌, Bool, cond, leb, List, [], ◌++◌, length, Some, None, Ok, Err, Option, Result, sym, refl, ap, ◌∙◌, append_assoc, append-nil, add-one}
 use Rattle.policy.specs.declared.entry.PolicyNumber.{PolicyNumber}
 use Rattle.policy.specs.declared.refusal.Refusal.{Refusal}
 use Rattle.policy.specs.declared.refusal.Refusal.TheVariants.{UnknownStation, JournalSize}
 use Rattle.commands.specs.declared.command.Command.{Command}
 use Rattle.commands.specs.declared.command.Command.TheVariants.{Make, Write, Read, Step, Down, Up, List as Lines}
 use Rattle.commands.specs.Commands.{decoded}
-use Rattle.commands.specs.Readings.{Reading, reading}
+use Rattle.commands.specs.Readings.{Reading}
 use Rattle.commands.proofs.ReadingLaws.{reading_end, reading_stop, reading_more}
 use Rattle.banks.specs.Meanings.{inside}
 use Rattle.stamps.specs.Pairs.{pair_make}

@@ -1,5 +1,5 @@
 -- The text of a file's beginning. Assumes nothing.
-use Rattle.std.proofs.Common.{◌≡◌, ℕ, zero, suc, ◌+◌, ◌<◌, ◌≤◌, true, leb, List, [], ◌∷◌, ◌++◌, length, get_or, drop, Some, None, Ok, Err, Option, sym, refl, ap, ◌∙◌, subst, append_assoc, append-nil, zero-add, arith}
+use Rattle.std.proofs.Common.{◌≡◌, ℕ, zero, suc, ◌+◌, ◌<◌, ◌≤◌, true, leb, List, [], ◌∷◌, ◌++◌, length, get_or, Some, None, Ok, Err, Option, sym, refl, ap, ◌∙◌, append_assoc, zero-add, arith}
 use Rattle.std.proofs.lemmas.List.{get_or_append_left, drop-append-le, length-append}
 use Rattle.std.proofs.lemmas.Bool.{le-leb, cond-true}
 use Rattle.policy.specs.declared.refusal.Refusal.{Refusal}
@@ -10,7 +10,7 @@ use Rattle.commands.proofs.ReadingLaws.{shorter, reading_end, reading_stop, read
 use Rattle.commands.proofs.RoundTrips.{taken, by_byte}
 use Rattle.commands.proofs.WholeFiles.{empty}
 use Rattle.account.specs.Laws.{game_after, Begins}
-use Rattle.account.specs.Texts.{Game, text, answer, account}
+use Rattle.account.specs.Texts.{Game, text, answer}
 use Rattle.account.specs.Words.{line}
 
 -- the operands of a command stand at the front, so what follows them does not change it

@@ -13,7 +13,7 @@ use Rattle.policy.specs.declared.entry.PolicyNumber.{PolicyNumber}
 use Rattle.policy.specs.declared.refusal.Refusal.{Refusal}
 use Rattle.policy.specs.declared.refusal.Refusal.TheVariants.{UnknownByte, NoRegister}
 use Rattle.commands.specs.Commands.{policy}
-use Rattle.commands.specs.Readings.{Reading, reading}
+use Rattle.commands.specs.Readings.{reading}
 use Rattle.commands.specs.declared.command.Command.{Command}
 use Rattle.commands.specs.declared.command.Command.TheVariants.{Make, Write, Read, Step, Down, Up, List as Lines}
 use Rattle.banks.specs.Meanings.{Meaning}

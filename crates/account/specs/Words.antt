@@ -15,7 +15,6 @@ use Rattle.machine.specs.declared.line.Kind.TheVariants.{Write, Read}
 use Rattle.machine.specs.declared.line.LineState.{LineState}
 use Rattle.machine.specs.declared.line.LineState.TheVariants as states
 use Rattle.machine.specs.declared.line.Line.{Line}
-use Rattle.account.specs.Games.{Played}
 use Rattle.account.specs.declared.outcome.Outcome.{Outcome}
 use Rattle.account.specs.declared.outcome.Outcome.TheVariants.{Accepted, Done, Refused, Listed}
 

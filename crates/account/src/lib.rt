@@ -1,5 +1,6 @@
 // A command file played: every command carried out on a register, and its outcome written into pages.
 #![tactic(auto)]
+
 mod carry;
 mod digits;
 mod first;

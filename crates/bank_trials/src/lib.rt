@@ -1,5 +1,6 @@
 // Trials of the banks and layers, each on two or three stations.
 #![tactic(auto)]
+
 #[cfg(test)]
 mod calls;
 #[cfg(test)]

@@ -1,5 +1,6 @@
 // Replays a stream of command files: each with its length in four bytes, highest first, in front of it. Behind each account stands an empty line.
 #![tactic(auto)]
+
 ghost use Rattle.std.specs.Prelude.{◌<◌, length, IfSome};
 
 use account::play::play;

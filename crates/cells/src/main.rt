@@ -1,5 +1,6 @@
 // The account of a pile of banks: a split over a renumbered board and a post, of three stations.
 #![tactic(auto)]
+
 mod drive;
 mod pile;
 

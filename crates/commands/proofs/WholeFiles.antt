@@ -4,7 +4,7 @@ use Rattle.policy.specs.declared.refusal.Refusal.TheVariants.{CutShort}
 use Rattle.commands.specs.declared.command.Command.{Command}
 use Rattle.commands.specs.Commands.{Decoded, decoded, decoded_at, command, width, encoded}
 use Rattle.commands.specs.Readings.{Reading, Bytes, Complete, reading, bytes_of_all}
-use Rattle.commands.proofs.ReadingLaws.{AllSmall, Good, good, shorter, reading_end, reading_stop, reading_more}
+use Rattle.commands.proofs.ReadingLaws.{AllSmall, good, shorter, reading_end, reading_stop, reading_more}
 use Rattle.commands.proofs.RoundTrips.{reencoded}
 
 not_the_end : (t : Bool) (p : Command × List ℕ) → ◌≡◌ {A = Decoded} (cond t (Ok (Some p)) (Err CutShort)) (Ok None) → ⊥

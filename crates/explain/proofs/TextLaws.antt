@@ -1,17 +1,17 @@
 -- What the text of a file tells of it. Assumes nothing.
-use Rattle.std.proofs.Common.{◌≡◌, ℕ, suc, ◌+◌, ◌^◌, ◌<◌, true, eqb, List, [], ◌∷◌, ◌++◌, length, Some, None, codes, decimal, Option, sym, refl, ap, ◌∙◌, ⊎_elim, append_assoc, append-nil, suc-add, zero-add, arith, length-append}
+use Rattle.std.proofs.Common.{◌≡◌, ℕ, suc, ◌+◌, ◌^◌, ◌<◌, true, eqb, List, [], ◌∷◌, ◌++◌, length, Some, None, codes, decimal, Option, sym, refl, ap, ◌∙◌, append_assoc, append-nil, suc-add, zero-add, arith, length-append}
 use Rattle.std.proofs.lemmas.List.{append_cancel_left}
 use Rattle.std.proofs.lemmas.Bool.{cond_both}
 use Rattle.text.proofs.Pieces.{lacks, lacks_append}
 use Rattle.policy.specs.Refusals.{number_of}
 use Rattle.policy.specs.declared.refusal.Refusal.{Refusal}
 use Rattle.policy.proofs.Numbers.{number_below}
-use Rattle.commands.specs.Readings.{Bytes, Complete, reading, bytes_of_all}
+use Rattle.commands.specs.Readings.{Bytes, reading, bytes_of_all}
 use Rattle.commands.specs.declared.command.Command.{Command}
 use Rattle.commands.specs.declared.command.Command.TheVariants.{Make, Write, Read, Step, Down, Up, List as Lines}
 use Rattle.commands.proofs.ReadingLaws.{Small, AllSmall}
 use Rattle.commands.proofs.WholeFiles.{all_small, few_commands, complete_bytes}
-use Rattle.explain.specs.Texts.{said, bank_said, refused, line, stop_line, lines_from, explained, newlines, one_for, LineEach, Tells}
+use Rattle.explain.specs.Texts.{said, bank_said, refused, line, stop_line, lines_from, newlines, one_for, LineEach, Tells}
 use Rattle.explain.proofs.Plain.{plain_decimal, newlines_plain, first_line}
 use Rattle.explain.proofs.Unsaid.{same_said}
 

@@ -9,7 +9,7 @@
 use Rattle.std.specs.Prelude.{◌≡◌, ℕ, suc, ◌+◌, cond, List, [], ◌∷◌, ◌++◌, length, Some, None, codes, decimal, Option, ◌==◌}
 use Rattle.policy.specs.Refusals.{number_of}
 use Rattle.policy.specs.declared.refusal.Refusal.{Refusal}
-use Rattle.commands.specs.Readings.{Reading, Bytes, Complete, reading}
+use Rattle.commands.specs.Readings.{Bytes, Complete, reading}
 use Rattle.commands.specs.declared.command.Command.{Command}
 use Rattle.commands.specs.declared.command.Command.TheVariants.{Make, Write, Read, Step, Down, Up, List as Lines}
 

@@ -1,5 +1,6 @@
 // A command file in words: reads it from standard input and prints a line for each command.
 #![tactic(auto)]
+
 mod texts;
 
 use crate::texts::explain;

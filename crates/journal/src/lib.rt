@@ -1,5 +1,6 @@
 // The journal: a list over a handed slice, for every line that can be copied.
 #![tactic(auto)]
+
 ghost use Rattle.std.specs.Prelude.{◌≡◌, ◌-◌, length, if◌then◌else◌, Ok, Err, nat_le, slice_set};
 ghost use Rattle.std.specs.List.{slice_get};
 ghost use Rattle.policy.specs.declared.refusal.Refusal.TheVariants.{JournalSize};

@@ -1,5 +1,6 @@
 // Registers of policies at work: prints each call with its answer, and the journals as they then stand.
 #![tactic(auto)]
+
 mod account;
 mod calls;
 mod pile;

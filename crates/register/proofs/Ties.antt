@@ -2,12 +2,12 @@
 use Rattle.std.proofs.Common.{◌≡◌, ℕ, ◌+◌, ◌-◌, ◌*◌, ◌/◌, ◌%◌, ◌<◌, ◌≤◌, Bool, eqb, ltb, leb, List, set, IsErrAnd, Ok, Err, Option, Result, sym, refl, ap, ◌∙◌, arith}
 use Rattle.std.proofs.lemmas.Bool.{cond-true, cond-false, lt-ltb, le-ltb, le-leb, eq-eqb, ne_eqb}
 use Rattle.policy.specs.declared.refusal.Refusal.{Refusal}
-use Rattle.banks.specs.Meanings.{Meaning, read, start, finish}
+use Rattle.banks.specs.Meanings.{Meaning, read, finish}
 use Rattle.banks.specs.declared.record.Record.{Record}
 use Rattle.stamps.specs.Makes.{Make, next_of}
 use Rattle.machine.specs.Machines.{Machine, next_machine, with_bank}
-use Rattle.machine.specs.Steps.{collected, going, stamp_write, stamp_line, collect, spread, settle, step_stage, spread_to, in_state, ending}
-use Rattle.machine.specs.declared.line.Kind.TheVariants.{Write, Read}
+use Rattle.machine.specs.Steps.{collected, going, stamp_line, collect, spread, settle, step_stage, spread_to, in_state, ending}
+use Rattle.machine.specs.declared.line.Kind.TheVariants.{Read}
 use Rattle.machine.specs.declared.line.LineState.TheVariants as states
 use Rattle.machine.specs.declared.line.Line.{Line}
 use Rattle.machine.specs.declared.row.Row.{Row}

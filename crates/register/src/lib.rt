@@ -1,5 +1,6 @@
 // The register: up to 16 stations hold one value together, each able to replace it.
 #![tactic(auto)]
+
 pub mod cells;
 pub mod marks;
 pub mod register;

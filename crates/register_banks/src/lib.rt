@@ -1,5 +1,6 @@
 // The steps of a register over a board and over a post. What these banks choose is known, so the machine's step has no choice left.
 #![tactic(auto)]
+
 ghost use Rattle.std.specs.Prelude.{◌≡◌, true, false, Result};
 ghost use Rattle.policy.specs.declared.refusal.Refusal.{Refusal};
 ghost use Rattle.banks.specs.declared.record.Record.{Record};

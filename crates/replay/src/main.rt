@@ -1,5 +1,6 @@
 // Replays a command file: reads it from standard input and prints the outcome of every command, piece by piece.
 #![tactic(auto)]
+
 use account::page::Page;
 use account::player::Player;
 use std::io::{Read, Write};

@@ -1,5 +1,6 @@
 // Stamps: what orders the records of a register. A trait with laws, and two makes of stamp.
 #![tactic(auto)]
+
 pub mod number;
 pub mod pair;
 pub mod stamp;

@@ -1,5 +1,6 @@
 // The station table: sixteen rows, each changed in place.
 #![tactic(auto)]
+
 ghost use Rattle.std.specs.Prelude.{◌≡◌, ◌-◌, length, replicate, slice_index_or, slice_set};
 ghost use Rattle.machine.specs.Machines.{row_of};
 ghost use Rattle.machine.specs.declared.row.Row.TheVariants.{Idle, Busy};

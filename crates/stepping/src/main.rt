@@ -1,5 +1,6 @@
 // Steps a register of 16 stations over a board through rounds of operations, and prints how many steps were accepted: what bench/run counts the instructions of.
 #![tactic(auto)]
+
 mod rounds;
 
 use crate::rounds::drive;

@@ -1,5 +1,6 @@
 // Numbers written as decimal text into an output buffer.
 #![tactic(auto)]
+
 ghost use Rattle.std.specs.Prelude.{◌≡◌, ◌-◌, ◌<◌, ◌++◌, take, drop, is_ok, if◌then◌else◌, decimal};
 
 use std::alloc::AllocError;

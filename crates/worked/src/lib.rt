@@ -1,5 +1,6 @@
 // The worked values of stamps and of the register, held by one contract.
 #![tactic(auto)]
+
 ghost use Rattle.std.specs.Prelude.{◌≡◌, true};
 ghost use Rattle.worked.specs.Worked.{Worked};
 

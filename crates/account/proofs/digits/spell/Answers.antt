@@ -1,6 +1,6 @@
 use Rattle.std.proofs.Common.{arith}
 use Rattle.std.proofs.lemmas.Fmt.{decimal_nonempty}
-use Rattle.account.proofs.Spelling.{one_digit, one_less, digits_none, digits_more, digits_all}
+use Rattle.account.proofs.Spelling.{one_less, digits_none, digits_more, digits_all}
 use Rattle.account.proofs.digits.spell.Goals as goal
 
 pub loop-left-init : goal.loop-left-init

@@ -1,4 +1,4 @@
-use Rattle.std.proofs.Common.{length, arith}
+use Rattle.std.proofs.Common.{arith}
 use Rattle.std.proofs.lemmas.Fmt.{length-decimal-le}
 use Rattle.account.proofs.Spelling.{one_digit, one_less}
 use Rattle.account.proofs.digits.width.Goals as goal

@@ -1,4 +1,4 @@
-use Rattle.std.proofs.Common.{◌+◌, ◌-◌, ◌*◌, ◌≤◌, length, codes, decimal, arith, length-take, rules}
+use Rattle.std.proofs.Common.{◌+◌, ◌-◌, ◌*◌, ◌≤◌, length, codes, decimal, arith, length-take}
 use Rattle.account.proofs.Listing.{list_whole}
 use Rattle.account.proofs.words.put_list.Goals as goal
 

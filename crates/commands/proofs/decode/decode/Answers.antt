@@ -1,5 +1,5 @@
 -- What each accepting arm answers.
-use Rattle.std.proofs.Common.{◌≡◌, ℕ, ◌<◌, List, length, get_or, refl, w8, Fits, rules}
+use Rattle.std.proofs.Common.{ℕ, List, get_or, refl, w8, Fits, rules}
 use mir.Facts.{Fits-lt-pow}
 use Rattle.std.proofs.lemmas.List.{get_or-drop}
 use Rattle.commands.specs.Commands.{Reencoded}

@@ -1,6 +1,6 @@
-use Rattle.std.proofs.Common.{◌≡◌, ℕ, ◌+◌, ◌^◌, ◌<◌, List, length, get_or, Some, None, Ok, sym, ap, ◌∙◌, arith, w8, Fits, rules}
+use Rattle.std.proofs.Common.{◌≡◌, ℕ, ◌+◌, ◌^◌, ◌<◌, List, length, get_or, Some, None, Ok, sym, arith, w8, Fits, rules}
 use mir.Facts.{Fits-lt-pow}
-use Rattle.commands.specs.Commands.{Decoded, decoded, seen_option}
+use Rattle.commands.specs.Commands.{Decoded, decoded}
 use Rattle.commands.proofs.ReadingLaws.{shorter}
 use Rattle.explain.specs.Texts.{LineEach, Tells}
 use Rattle.explain.proofs.Lines.{at_end, at_stop, at_more}
