@@ -1,8 +1,9 @@
 #!/usr/bin/env python3
 """Respells this repository's own definitions, lemmas, fields and constructors as Rattle's style has it: words in snake
-case (number-below becomes number_below), facts in camel case (Law-of-runs becomes LawOfRuns). Run once, at the top, after
-the kit's port.py. It takes the names from the signatures of specs/ and proofs/, leaves goals' names, strings, the
-functions of src/ and file names alone, and says which names would fall together; those get the names in APART."""
+case (number-below becomes number_below), facts in camel case (Law-of-runs becomes LawOfRuns). Run at the top, after the
+kit's port.py; a second run finds nothing. It takes the names from the signatures of specs/ and proofs/, and the variables
+and aliases from the text of lemmas and clauses. It leaves goals' names, strings, the functions of src/ and file names
+alone, and says which names would fall together; those get the names in APART."""
 import os
 import re
 import sys
@@ -10,7 +11,7 @@ import sys
 ROOT = os.path.dirname(os.path.dirname(os.path.abspath(__file__)))
 NAME = r"[^\s(){}\[\];,.|\"]+"
 SIGNATURE = re.compile(r"^(\s*)((?:(?:abbrev|unfoldable|pub|data|record|mutual) )*)(%s) ?:(?: |$)" % NAME)
-HEAD = re.compile(r"^(?:pub )?(?:data|record) (%s)" % NAME)
+HEAD = re.compile(r"^\s*(?:pub )?(?:data|record) (%s)" % NAME)
 GOAL = re.compile(r": \(?(?:goal|Goals|goals|given|Given)\.")
 # A lemma that would have its function's name ends in _lem.
 APART = {
@@ -44,11 +45,25 @@ def own_names():
     return {n for n in own if "-" in n and re.match(r"[A-Za-z]", n) and not n.startswith(("returns-", "invariant-", "decreases-", "loop-", "overflow-", "bounds-", "slice-", "ghosts-"))}
 
 
+def variables():
+    """Names of variables and aliases, in the files of lemmas and definitions and in clauses."""
+    found = set()
+    for path in files(".antt", ".rt"):
+        if os.path.basename(path) in ("Answers.antt", "Invariants.antt", "Proof.antt"):
+            continue
+        for line in read(path).split("\n"):
+            if path.endswith(".rt") and not re.search("ghost|ensures|requires", line):
+                continue
+            line = re.sub(r'"[^"]*"|--.*$|//.*$', "", line)
+            found.update(it for it in re.findall(NAME, line) if re.search("[A-Za-z]-[A-Za-z]", it))
+    return found
+
+
 def imported():
     names = set()
     for path in files(".antt", ".rt"):
-        for m in re.finditer(r"use Rattle\.(\w+)\.[\w.+'-]*?\{([^}]*)\}", read(path)):
-            if not os.path.isdir(os.path.join(ROOT, "crates", m[1])):
+        for m in re.finditer(r"use (?:Rattle\.(\w+)|[a-z]\w*)\.[\w.+'-]*?\{([^}]*)\}", read(path)):
+            if not (m[1] and os.path.isdir(os.path.join(ROOT, "crates", m[1]))):
                 for it in m[2].split(","):
                     names.add(it.strip().split(" as ")[0])
     return names
@@ -70,9 +85,9 @@ def tokens():
 
 
 def main():
-    names = own_names()
+    names = own_names() | variables()
     foreign = imported()
-    for n in sorted(names & foreign):
+    for n in sorted(own_names() & foreign):
         print(f"left: {n} is also a name of the library")
     names -= foreign
     seen = tokens()

@@ -47,8 +47,8 @@ same_lines (k ∷ ks) (l ∷ ls) e =
     cc
 
 same_lists : (m n : ℕ) (ks ls : List Entry) → m < 2 ^ 64 → n < 2 ^ 64 → AllByRecursion Sized (take m ks) → AllByRecursion Sized (take n ls) → list_said m ks ≡ list_said n ls → (m ≡ n) × (take m ks ≡ take n ls)
-same_lists m n ks ls m-fits n-fits ks-sized ls-sized e =
-    let same : ◌≡◌ {A = ℕ × List Printed} (m, map printed (take m ks)) (n, map printed (take n ls)) = sym (reads_back m ks m-fits ks-sized) ∙ ap read_list e ∙ reads_back n ls n-fits ls-sized in
+same_lists m n ks ls m_fits n_fits ks_sized ls_sized e =
+    let same : ◌≡◌ {A = ℕ × List Printed} (m, map printed (take m ks)) (n, map printed (take n ls)) = sym (reads_back m ks m_fits ks_sized) ∙ ap read_list e ∙ reads_back n ls n_fits ls_sized in
     (ap (λ p. p.0) same, same_lines (take m ks) (take n ls) (ap (λ p. p.1) same))
 
 in_files : (xs : List ℕ) → Bytes xs → length xs < 2 ^ 64 → (cs ds : List Command) (g : Game) → (reading xs).commands ≡ cs ++ (Lines ∷ ds) → game_after cs None ≡ Some g → ListsAt xs cs g

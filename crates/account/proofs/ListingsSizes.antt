@@ -145,10 +145,10 @@ module _ (t : ℕ) (M : Played) (w : Within t M) (short : t + 1 < 2 ^ 64) where
   Opens a = Within (t + 1) a.1
 
   open_row_within : (s : ℕ) (kind : Kind) (v : PolicyNumber) (row : Row) → s < 2 ^ 64 → v.0 < 2 ^ 64 → M.size ≤ length M.lines → Opens (open_row M s kind v row)
-  open_row_within s kind v (Busy i c) s-fits v-fits long = unmoved
-  open_row_within s kind v Idle s-fits v-fits long =
+  open_row_within s kind v (Busy i c) s_fits v_fits long = unmoved
+  open_row_within s kind v Idle s_fits v_fits long =
       let l = fresh M s kind v in
-      let sized : Sized l = (s-fits, w.origin.0, v-fits, now_fits, omega arith) in
+      let sized : Sized l = (s_fits, w.origin.0, v_fits, now_fits, omega arith) in
       cond_both (ltb M.used M.size) _ _ Opens
       (λ e.
       next M.bank _ (M.used + 1) s _ w.bank (All-set Sized M.lines M.used l sized w.lines) (omega (arith, w.used))
@@ -156,7 +156,7 @@ module _ (t : ℕ) (M : Played) (w : Within t M) (short : t + 1 < 2 ^ 64) where
       (λ _. unmoved)
 
   pub open_within : (s : ℕ) (kind : Kind) (v : PolicyNumber) → s < 2 ^ 64 → v.0 < 2 ^ 64 → Within (t + 1) (open_line M s kind v).1
-  open_within s kind v s-fits v-fits =
+  open_within s kind v s_fits v_fits =
       cond_both (leb M.size (length M.lines)) _ _ Opens
-      (λ e. cond_both (inside M.stations s) _ _ Opens (λ _. open_row_within s kind v (row_of M.rows s) s-fits v-fits (leb-true M.size (length M.lines) e)) (λ _. unmoved))
+      (λ e. cond_both (inside M.stations s) _ _ Opens (λ _. open_row_within s kind v (row_of M.rows s) s_fits v_fits (leb-true M.size (length M.lines) e)) (λ _. unmoved))
       (λ _. unmoved)

@@ -51,15 +51,15 @@ abbrev followed : List ℕ → Reading → Reading
 followed ys r = record { commands = r.commands ++ (reading ys).commands; stop = (reading ys).stop }
 
 joined_at : (xs ys : List ℕ) → ((zs : List ℕ) → length zs < length xs → Complete zs → Joined zs ys) → (d : Decoded) → decoded xs ≡ d → Complete xs → Joined xs ys
-joined_at xs ys shorter-joined (Ok None) e end = ap (λ zs. reading (zs ++ ys)) (empty xs e) ∙ sym (ap (followed ys) (reading_end xs e))
-joined_at xs ys shorter-joined (Ok (Some p)) e end =
+joined_at xs ys shorter_joined (Ok None) e end = ap (λ zs. reading (zs ++ ys)) (empty xs e) ∙ sym (ap (followed ys) (reading_end xs e))
+joined_at xs ys shorter_joined (Ok (Some p)) e end =
     let more = reading_more xs p.0 p.1 e in
     let rest_end : Complete p.1 = sym (ap (λ (r : Reading). r.stop) more) ∙ end in
-    let joined = shorter-joined p.1 (shorter xs p.0 p.1 e) rest_end in
+    let joined = shorter_joined p.1 (shorter xs p.0 p.1 e) rest_end in
     reading_more (xs ++ ys) p.0 (p.1 ++ ys) (decoded_more xs ys p.0 p.1 e)
     ∙ ap (λ (r : Reading). record { commands = p.0 ∷ r.commands; stop = r.stop }) joined
     ∙ sym (ap (followed ys) more)
-joined_at xs ys shorter-joined (Err x) e end =
+joined_at xs ys shorter_joined (Err x) e end =
     let stopped = ap (λ (r : Reading). r.stop) (reading_stop xs x e) in
     let z : ◌≡◌ {A = ℕ} 0 1 = cc in absurd (omega arith)
 

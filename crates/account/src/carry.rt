@@ -1,6 +1,6 @@
 // One command carried out on a register that is made, for every bank.
 ghost use Rattle.std.specs.Prelude.{◌≡◌, Result};
-ghost use Rattle.account.specs.Games.{Played, answered, stepped as stepped-as, taken as taken_as, carried, choice_for};
+ghost use Rattle.account.specs.Games.{Played, answered, stepped as stepped_as, taken as taken_as, carried, choice_for};
 ghost use Rattle.account.specs.declared.outcome.Outcome.{Outcome};
 ghost use Rattle.register.specs.Seen.{seen};
 
@@ -64,7 +64,7 @@ fn marked(answer: Result<(), Refusal>) -> Outcome
 }
 
 fn stepped(answer: Result<Stepped<PairStamp, PolicyNumber>, Refusal>) -> Outcome
-    ensures { result ≡ stepped-as answer }
+    ensures { result ≡ stepped_as answer }
 {
     match answer {
         Ok(step) => taken(step),

@@ -12,7 +12,7 @@ ghost use Rattle.machine.specs.Machines.{make};
 ghost use Rattle.register.specs.Makings.{making, seen_made};
 ghost use Rattle.account.specs.Games.{Played};
 ghost use Rattle.account.specs.Founded.{seen_game};
-ghost use Rattle.account.specs.Texts.{blank as blank-line, founding};
+ghost use Rattle.account.specs.Texts.{blank as blank_line, founding};
 
 use crate::game::Game;
 use banks::bank::Bank;
@@ -35,7 +35,7 @@ const STATIONS: u8 = 16;
 
 // What a journal line holds before it is used.
 fn blank() -> Line<PairStamp, PolicyNumber>
-    ensures { result ≡ blank-line }
+    ensures { result ≡ blank_line }
 {
     let Some(stamp) = PairStamp::new(0, 0) else {
         unreachable()
@@ -100,7 +100,7 @@ fn found<B: Bank<Record<PairStamp, PolicyNumber>> + Drop>(
     count: u32,
     value: PolicyNumber,
 ) -> Result<Result<Game<B>, Refusal>, AllocError>
-    ensures { IfOk result (λ a. seen_game B.Bank.meaning a ≡ make pair_make (B.Bank.meaning bank) stations count value (replicate 512 blank-line) 512) }
+    ensures { IfOk result (λ a. seen_game B.Bank.meaning a ≡ make pair_make (B.Bank.meaning bank) stations count value (replicate 512 blank_line) 512) }
 {
     let mut bank = bank;
     let mut lines = repeated(heap, blank(), LINES)?;

@@ -90,8 +90,8 @@ reencoded (b ∷ xs) small =
     b
 
 pub make_redecoded : (bank stations n v : ℕ) → n < 2 ^ 32 → v < 2 ^ 32 → Redecoded (Make bank stations n (policy v))
-make_redecoded bank stations n v n-fits v-fits = λ rest.
-    let count = word_of_bytes n n-fits in
-    let value = word_of_bytes v v-fits in
+make_redecoded bank stations n v n_fits v_fits = λ rest.
+    let count = word_of_bytes n n_fits in
+    let value = word_of_bytes v v_fits in
     let enough : leb 10 (length (bank ∷ stations ∷ (bytes_of n ++ bytes_of v) ++ rest)) ≡ true = le-leb 10 _ (omega arith) in
     rw (enough, count, value)

@@ -25,14 +25,14 @@ abbrev Told : List ℕ → Reading → Type 0
 Told xs r = AllSmall r.commands × (r.stop ≡ None → xs ≡ bytes_of_all r.commands) × (length r.commands ≤ length xs)
 
 told_at : (xs : List ℕ) → Bytes xs → ((ys : List ℕ) → length ys < length xs → Bytes ys → Told ys (reading ys)) → (d : Decoded) → decoded xs ≡ d → Told xs (reading xs)
-told_at xs bytes shorter-told (Ok None) e = subst (Told xs) (sym (reading_end xs e)) (tt, λ _. empty xs e, omega arith)
-told_at xs bytes shorter-told (Ok (Some p)) e =
+told_at xs bytes shorter_told (Ok None) e = subst (Told xs) (sym (reading_end xs e)) (tt, λ _. empty xs e, omega arith)
+told_at xs bytes shorter_told (Ok (Some p)) e =
     let g = good xs bytes p.0 p.1 e in
     let less = shorter xs p.0 p.1 e in
-    let more = shorter-told p.1 less g.bytes in
+    let more = shorter_told p.1 less g.bytes in
     subst (Told xs) (sym (reading_more xs p.0 p.1 e))
     ((g.small, more.0), λ end. reencoded xs bytes p.0 p.1 e ∙ ap (λ ys. encoded p.0 ++ ys) (more.1 end), omega arith)
-told_at xs bytes shorter-told (Err x) e =
+told_at xs bytes shorter_told (Err x) e =
     subst (Told xs) (sym (reading_stop xs x e)) (tt, (λ end. let z : ◌≡◌ {A = ℕ} 0 1 = cc in absurd (omega arith)), omega arith)
 
 told_within : (k : ℕ) (xs : List ℕ) → length xs < k → Bytes xs → Told xs (reading xs)

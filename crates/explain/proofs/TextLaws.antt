@@ -63,17 +63,17 @@ nonempty k words rest e = omega (arith, ap length (e ∙ parted k words rest), l
 
 -- lines that begin with one number are the lines of the same commands
 same_commands : (k : ℕ) (cs ds : List Command) → AllSmall cs → AllSmall ds → lines_from k cs None ≡ lines_from k ds None → cs ≡ ds
-same_commands k [] [] cs-small ds-small e = refl
-same_commands k [] (d ∷ ds) cs-small ds-small e = absurd (nonempty k (said d) (lines_from (suc k) ds None) e)
-same_commands k (c ∷ cs) [] cs-small ds-small e = absurd (nonempty k (said c) (lines_from (suc k) cs None) (sym e))
-same_commands k (c ∷ cs) (d ∷ ds) cs-small ds-small e =
-    let cs-lines = lines_from (suc k) cs None in
-    let ds-lines = lines_from (suc k) ds None in
-    let behind = append_cancel_left (decimal k) _ _ (sym (parted k (said c) cs-lines) ∙ e ∙ parted k (said d) ds-lines) in
-    let words : said c ++ (10 ∷ cs-lines) ≡ said d ++ (10 ∷ ds-lines) = cc in
-    let cut = first_line (said c) (said d) cs-lines ds-lines (plain_said c cs-small.0) (plain_said d ds-small.0) words in
-    let first = same_said c d cs-small.0 ds-small.0 cut.0 in
-    let others = same_commands (suc k) cs ds cs-small.1 ds-small.1 cut.1 in
+same_commands k [] [] cs_small ds_small e = refl
+same_commands k [] (d ∷ ds) cs_small ds_small e = absurd (nonempty k (said d) (lines_from (suc k) ds None) e)
+same_commands k (c ∷ cs) [] cs_small ds_small e = absurd (nonempty k (said c) (lines_from (suc k) cs None) (sym e))
+same_commands k (c ∷ cs) (d ∷ ds) cs_small ds_small e =
+    let cs_lines = lines_from (suc k) cs None in
+    let ds_lines = lines_from (suc k) ds None in
+    let behind = append_cancel_left (decimal k) _ _ (sym (parted k (said c) cs_lines) ∙ e ∙ parted k (said d) ds_lines) in
+    let words : said c ++ (10 ∷ cs_lines) ≡ said d ++ (10 ∷ ds_lines) = cc in
+    let cut = first_line (said c) (said d) cs_lines ds_lines (plain_said c cs_small.0) (plain_said d ds_small.0) words in
+    let first = same_said c d cs_small.0 ds_small.0 cut.0 in
+    let others = same_commands (suc k) cs ds cs_small.1 ds_small.1 cut.1 in
     cc
 
 pub line_each : (xs : List ℕ) → Bytes xs → length xs + 1 < 2 ^ 64 → LineEach xs
@@ -81,8 +81,8 @@ line_each xs bytes fits =
     all_lines 1 (reading xs).commands (reading xs).stop (omega (arith, few_commands xs bytes)) (all_small xs bytes)
 
 pub tells : (xs : List ℕ) → Bytes xs → Tells xs
-tells xs bytes xs-end ys ys-bytes ys-end e =
-    let text-xs = ap (lines_from 1 (reading xs).commands) xs-end in
-    let text-ys = ap (lines_from 1 (reading ys).commands) ys-end in
-    let same = same_commands 1 (reading ys).commands (reading xs).commands (all_small ys ys-bytes) (all_small xs bytes) (sym text-ys ∙ e ∙ text-xs) in
-    complete_bytes ys ys-bytes ys-end ∙ ap bytes_of_all same ∙ sym (complete_bytes xs bytes xs-end)
+tells xs bytes xs_end ys ys_bytes ys_end e =
+    let text_xs = ap (lines_from 1 (reading xs).commands) xs_end in
+    let text_ys = ap (lines_from 1 (reading ys).commands) ys_end in
+    let same = same_commands 1 (reading ys).commands (reading xs).commands (all_small ys ys_bytes) (all_small xs bytes) (sym text_ys ∙ e ∙ text_xs) in
+    complete_bytes ys ys_bytes ys_end ∙ ap bytes_of_all same ∙ sym (complete_bytes xs bytes xs_end)

@@ -64,8 +64,8 @@ abbrev make_rest : ℕ → ℕ → ℕ → List ℕ
 make_rest s n v = (codes " stations " ++ decimal s) ++ ((codes " count " ++ decimal n) ++ (codes " value " ++ decimal v))
 
 three_numbers : (s n v : ℕ) → s < 2 ^ 64 → n < 2 ^ 64 → v < 2 ^ 64 → numbers None (make_rest s n v) ≡ s ∷ n ∷ v ∷ []
-three_numbers s n v s-fits n-fits v-fits =
-    number_read s _ s-fits ∙ ap (λ ns. s ∷ ns) (number_read n _ n-fits ∙ ap (λ ns. n ∷ ns) (last_number v v-fits))
+three_numbers s n v s_fits n_fits v_fits =
+    number_read s _ s_fits ∙ ap (λ ns. s ∷ ns) (number_read n _ n_fits ∙ ap (λ ns. n ∷ ns) (last_number v v_fits))
 
 unsaid_other : (b s n v : ℕ) → Small (Make b s n (policy v)) → unsaid ((codes "make bank " ++ decimal b) ++ make_rest s n v) ≡ Make b s n (policy v)
 unsaid_other b s n v small =
@@ -94,4 +94,4 @@ unsaid_said Lines small = refl
 
 -- commands with the same words are the same
 pub same_said : (c d : Command) → Small c → Small d → said c ≡ said d → c ≡ d
-same_said c d c-small d_small e = sym (unsaid_said c c-small) ∙ ap unsaid e ∙ unsaid_said d d_small
+same_said c d c_small d_small e = sym (unsaid_said c c_small) ∙ ap unsaid e ∙ unsaid_said d d_small

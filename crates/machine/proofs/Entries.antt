@@ -133,7 +133,7 @@ module _ {S V : Type 0} where
       (cond (eqb ((e.op.steps - n) % 2) 0) None (Some (spread_to s ((e.op.steps - n) / 2), rec e)))
 
   -- the row of s holds line i, which is entry e
-  pub record Busy-fits (σ : Point S V) (s i steps : ℕ) (e : Entry S V) : Type 0 where
+  pub record BusyFits (σ : Point S V) (s i steps : ℕ) (e : Entry S V) : Type 0 where
     pub low : 1 ≤ i
     pub high : i ≤ σ.count
     pub station : e.op.station ≡ s
@@ -146,7 +146,7 @@ module _ {S V : Type 0} where
 
   abbrev pub RowFits : Point S V → ℕ → Row → Type 0
   RowFits σ s Idle = (σ.cells.opened s ≡ None) × ((k : ℕ) → k ≤ σ.count → (σ.ent k).op.station ≡ s → Ended (σ.moment + 1) (σ.ent k))
-  RowFits σ s (Busy i steps) = Busy-fits σ s i steps (σ.ent i)
+  RowFits σ s (Busy i steps) = BusyFits σ s i steps (σ.ent i)
 
   pub record Inv (m : Make S) (σ : Point S V) : Type 0 where
     pub zeroth : σ.ent 0 ≡ start_entry σ.stations σ.origin

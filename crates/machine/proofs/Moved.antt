@@ -7,7 +7,7 @@ use Rattle.machine.specs.declared.line.Kind.TheVariants.{Read}
 use Rattle.machine.specs.declared.row.Row.{Row}
 use Rattle.machine.specs.declared.row.Row.TheVariants.{Idle, Busy}
 use Rattle.machine.proofs.Basics.{none_some, valueOr_on, split, at_other}
-use Rattle.machine.proofs.Entries.{Entry, Cells, Point, Held, AtMost, DoneAt, Sound, Backed, Ended, Order, Later, Busy-fits, RowFits, Inv}
+use Rattle.machine.proofs.Entries.{Entry, Cells, Point, Held, AtMost, DoneAt, Sound, Backed, Ended, Order, Later, BusyFits, RowFits, Inv}
 use Rattle.machine.proofs.Moves.{Grows, next_point, Move, unchanged, backed_in, sound_on}
 use Rattle.machine.proofs.Rows.{Here, fits}
 
@@ -67,7 +67,7 @@ module _ {S V : Type 0} {m : Make S} {σ : Point S V} {d : Cells (Record S V)} {
   row_stays w Idle ne f =
       ((move.others w ne).0 ∙ f.0, λ k lk. each (λ _ g. g.op.station ≡ w → Ended (moment + 1 + 1) g) k lk (λ _ q. absurd (ne (sym q ∙ move.grows.station ∙ (fits h).station))) (λ _ lk' q. let g = f.1 k lk' q in let b = g.before in record { at = g.at; how = g.how; ended = g.ended; before = omega arith }))
   row_stays w (Busy j t) ne f =
-      subst (Busy-fits τ w j t) (sym (at_other ent i e j (λ q. ne (sym f.station ∙ ap (λ k. (ent k).op.station) q ∙ (fits h).station))))
+      subst (BusyFits τ w j t) (sym (at_other ent i e j (λ q. ne (sym f.station ∙ ap (λ k. (ent k).op.station) q ∙ (fits h).station))))
       (record { low = f.low; high = f.high; station = f.station; going = f.going; taken = f.taken; middle = (move.others w ne).0 ∙ f.middle; spread = λ j' q. (move.others w ne).1 _ ∙ f.spread j' q })
 
   moved_rows : (w : ℕ) → inside n w ≡ true → RowFits τ w (τ.row w)

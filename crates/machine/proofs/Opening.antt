@@ -10,7 +10,7 @@ use Rattle.machine.specs.declared.line.Kind.TheVariants.{Read}
 use Rattle.machine.specs.declared.row.Row.{Row}
 use Rattle.machine.specs.declared.row.Row.TheVariants.{Idle, Busy}
 use Rattle.machine.proofs.Basics.{none_some, valueOr_on, inside_parts, split, at_same, at_other}
-use Rattle.machine.proofs.Entries.{Entry, Point, Held, AtMost, start_entry, DoneAt, collecting, Sound, Backed, Ended, Order, Later, Busy-fits, RowFits, Inv}
+use Rattle.machine.proofs.Entries.{Entry, Point, Held, AtMost, start_entry, DoneAt, collecting, Sound, Backed, Ended, Order, Later, BusyFits, RowFits, Inv}
 use Rattle.machine.proofs.Moves.{unchanged, backed_in, sound_on}
 use Rattle.machine.proofs.Orders.{at_most_refl}
 use Rattle.machine.proofs.Rows.{nothing_open}
@@ -97,12 +97,12 @@ module _ {S V : Type 0} {m : Make S} (laws : Laws m) {σ : Point S V} {s : ℕ} 
       (f.0, λ k lk. each (λ k' g. g.op.station ≡ w → Ended (moment + 1 + 1) g) k lk (λ q. absurd (ne (sym q))) (λ lk' q. let g = f.1 k lk' q in let b = g.before in record { at = g.at; how = g.how; ended = g.ended; before = omega arith }))
   row_stays w (Busy j t) ne f =
       let hi = f.high in
-      subst (Busy-fits τ w j t) (sym (at_other ent (count + 1) new j (omega arith)))
+      subst (BusyFits τ w j t) (sym (at_other ent (count + 1) new j (omega arith)))
       (record { low = f.low; high = omega arith; station = f.station; going = f.going; taken = f.taken; middle = f.middle; spread = f.spread })
 
   new_row : RowFits τ s (Busy (count + 1) 0)
   new_row =
-      subst (Busy-fits τ s (count + 1) 0) (sym (at_same ent (count + 1) new))
+      subst (BusyFits τ s (count + 1) 0) (sym (at_same ent (count + 1) new))
       (record {
         low = omega arith;
         high = le_refl _;

@@ -9,7 +9,7 @@ use Rattle.machine.specs.Histories.{End}
 use Rattle.machine.specs.Steps.{spread_to}
 use Rattle.machine.specs.declared.row.Row.TheVariants.{Idle, Busy}
 use Rattle.machine.proofs.Basics.{none_some, split, at_same}
-use Rattle.machine.proofs.Entries.{Entry, Cells, Point, rec, Ended, open_record, Busy-fits, RowFits, Inv}
+use Rattle.machine.proofs.Entries.{Entry, Cells, Point, rec, Ended, open_record, BusyFits, RowFits, Inv}
 use Rattle.machine.proofs.Moves.{next_point}
 
 pub record Here {S V : Type 0} (m : Make S) (σ : Point S V) (i s steps : ℕ) : Type 0 where
@@ -41,12 +41,12 @@ module _ {S V : Type 0} (n s : ℕ) (e : Entry S V) where
 module _ {S V : Type 0} {m : Make S} {σ : Point S V} {i s steps : ℕ} (h : Here m σ i s steps) where
   open σ use {moment, count, ent}
 
-  pub fits : Busy-fits σ s i steps (ent i)
+  pub fits : BusyFits σ s i steps (ent i)
   fits = subst (RowFits σ s) h.busy (h.inv.rows s h.known)
 
   -- a row that goes on
-  pub busy_row : (d : Cells (Record S V)) (e : Entry S V) → Busy-fits (next_point σ d i s e (Busy i (steps + 1))) s i (steps + 1) e → RowFits (next_point σ d i s e (Busy i (steps + 1))) s (Busy i (steps + 1))
-  busy_row d e f = subst (Busy-fits (next_point σ d i s e (Busy i (steps + 1))) s i (steps + 1)) (sym (at_same ent i e)) f
+  pub busy_row : (d : Cells (Record S V)) (e : Entry S V) → BusyFits (next_point σ d i s e (Busy i (steps + 1))) s i (steps + 1) e → RowFits (next_point σ d i s e (Busy i (steps + 1))) s (Busy i (steps + 1))
+  busy_row d e f = subst (BusyFits (next_point σ d i s e (Busy i (steps + 1))) s i (steps + 1)) (sym (at_same ent i e)) f
 
   -- another operation of the station is over
   other_over : (k : ℕ) → k ≢ i → k ≤ count → (ent k).op.station ≡ s → Ended (moment + 1 + 1) (ent k)

@@ -65,7 +65,7 @@ module _ {S V : Type 0} {m : Make S} {σ : Point S V} {i s steps : ℕ} (late : 
       earlier : a < i → AtMost m (ent a).stamp e.stamp
       earlier lt =
           let o = h.inv.order a i la (fits h).high lt (st ∙ sym (fits h).station) in
-          let u-is = (some_pair _ _ _ _ (sym d ∙ o.ended)).0 in
+          let u_is = (some_pair _ _ _ _ (sym d ∙ o.ended)).0 in
           let b = o.before in
           let g = taken in
           let p = late.past in

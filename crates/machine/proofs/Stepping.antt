@@ -105,8 +105,8 @@ module _ {S V : Type 0} {m : Make S} (laws : Laws m) {M : Machine S V} {b : Book
 
   spent : c + 1 ≡ M.stations → o.kind ≡ Write → After kept s (stamp_write M s i l (c + 1) None)
   spent eq write =
-      let noted-end = ap (λ p. with_step p p.stamped (Some (b.moment + 1, as_spent))) (op_is kept h) ∙ ap (λ t. with_step o o.stamped (Some (t, as_spent))) (now kept h) in
-      ((λ q. let bad : ⊥ = omega arith in absurd bad, λ q. omega arith, λ q. omega arith), moved_told M b kept h (collected_to laws met o.stamped (Some (M.moment + 1, as_spent)) z) M.bank _ _ _ kept.told.bank (line_set M b kept h _ _ refl) noted-end (no_row kept h) (spent_move laws met eq write))
+      let noted_end = ap (λ p. with_step p p.stamped (Some (b.moment + 1, as_spent))) (op_is kept h) ∙ ap (λ t. with_step o o.stamped (Some (t, as_spent))) (now kept h) in
+      ((λ q. let bad : ⊥ = omega arith in absurd bad, λ q. omega arith, λ q. omega arith), moved_told M b kept h (collected_to laws met o.stamped (Some (M.moment + 1, as_spent)) z) M.bank _ _ _ kept.told.bank (line_set M b kept h _ _ refl) noted_end (no_row kept h) (spent_move laws met eq write))
 
   by_next : c + 1 ≡ M.stations → o.kind ≡ Write → (t : Option S) → m.next z s ≡ t → After kept s (stamp_write M s i l (c + 1) t)
   by_next eq write None _ = spent eq write

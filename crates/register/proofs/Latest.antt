@@ -7,7 +7,7 @@ use Rattle.machine.specs.declared.line.Kind.TheVariants.{Write, Read}
 use Rattle.machine.specs.declared.line.LineState.{LineState}
 use Rattle.machine.specs.declared.line.LineState.TheVariants.{Collecting, Spreading, Done, Spent}
 use Rattle.machine.specs.declared.line.Line.{Line}
-use Rattle.register.specs.Lookups.{done_write, found_at, last_of, Finished-write, Highest}
+use Rattle.register.specs.Lookups.{done_write, found_at, last_of, FinishedWrite, Highest}
 
 false_true : ◌≡◌ {A = Bool} false true → ⊥
 false_true e = let z : ◌≡◌ {A = ℕ} 0 1 = cc in omega arith
@@ -21,7 +21,7 @@ is_done_write_lem Write Spent e = absurd (false_true e)
 is_done_write_lem Read state e = absurd (false_true e)
 
 module _ {S V : Type 0} (lines : List (Line S V)) (s : ℕ) where
-  found_line : (k : ℕ) (o : Option (Line S V)) → slice_get lines k ≡ o → found_at s o ≡ true → Finished-write lines (suc k) s (suc k)
+  found_line : (k : ℕ) (o : Option (Line S V)) → slice_get lines k ≡ o → found_at s o ≡ true → FinishedWrite lines (suc k) s (suc k)
   found_line k None at e = absurd (false_true e)
   found_line k (Some l) at e =
       let parts = and_parts (done_write l.kind l.state) (eqb l.station s) e in
@@ -37,7 +37,7 @@ module _ {S V : Type 0} (lines : List (Line S V)) (s : ℕ) where
         done = is.1;
       }
 
-  finished_found : (used k : ℕ) (f : Finished-write lines used s (suc k)) → found_at s (slice_get lines k) ≡ true
+  finished_found : (used k : ℕ) (f : FinishedWrite lines used s (suc k)) → found_at s (slice_get lines k) ≡ true
   finished_found used k f =
       let back : suc k - 1 ≡ k = omega arith in
       let at = sym (ap (slice_get lines) back) ∙ f.stands in
@@ -46,13 +46,13 @@ module _ {S V : Type 0} (lines : List (Line S V)) (s : ℕ) where
       (ap (λ kind. done_write kind f.line.state) f.write ∙ ap (done_write Write) f.done)
       (eq-eqb f.line.station s f.own)
 
-  none_there : (k j : ℕ) → j ≡ suc k → found_at s (slice_get lines k) ≡ false → Finished-write lines (suc k) s j → ⊥
+  none_there : (k j : ℕ) → j ≡ suc k → found_at s (slice_get lines k) ≡ false → FinishedWrite lines (suc k) s j → ⊥
   none_there k j is none f =
-      let P : ℕ → Type 0 = λ i. Finished-write lines (suc k) s i in
+      let P : ℕ → Type 0 = λ i. FinishedWrite lines (suc k) s i in
       false_true (sym none ∙ finished_found (suc k) k (subst P is f))
 
   -- a finished write among one line more
-  narrowed : (k j : ℕ) → found_at s (slice_get lines k) ≡ false → Finished-write lines (suc k) s j → Finished-write lines k s j
+  narrowed : (k j : ℕ) → found_at s (slice_get lines k) ≡ false → FinishedWrite lines (suc k) s j → FinishedWrite lines k s j
   narrowed k j none f =
       record {
         numbered = f.numbered;
@@ -64,7 +64,7 @@ module _ {S V : Type 0} (lines : List (Line S V)) (s : ℕ) where
         done = f.done;
       }
 
-  widened : (k j : ℕ) → Finished-write lines k s j → Finished-write lines (suc k) s j
+  widened : (k j : ℕ) → FinishedWrite lines k s j → FinishedWrite lines (suc k) s j
   widened k j f =
       record {
         numbered = f.numbered;

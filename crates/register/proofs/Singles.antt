@@ -15,7 +15,7 @@ use Rattle.machine.specs.declared.line.Line.{Line}
 use Rattle.machine.specs.declared.row.Row.{Row}
 use Rattle.machine.specs.declared.row.Row.TheVariants.{Idle, Busy}
 use Rattle.machine.specs.declared.row.Stepped.{Stepped}
-use Rattle.register.specs.Single.{One-cell, one_read, one_start, one_finish, OwnRow, Single}
+use Rattle.register.specs.Single.{OneCell, one_read, one_start, one_finish, OwnRow, Single}
 
 -- not refused by 14
 abbrev Unspent : {T : Type 0} → Result T Refusal → Type 0
@@ -69,18 +69,18 @@ module _ {S V : Type 0} (m : Make S) (M : Machine S V) (choice : Bool) (s : ℕ)
   abbrev IsSingle : Answer → Type 0
   IsSingle p = Single s p.0 M.bank p.1.bank
 
-  stamped_single : (i c : ℕ) (l : Line S V) (kind : Kind) (o : Option S) → One-cell s M.bank M.bank → IsSingle (stamp_write M s i l c o)
+  stamped_single : (i c : ℕ) (l : Line S V) (kind : Kind) (o : Option S) → OneCell s M.bank M.bank → IsSingle (stamp_write M s i l c o)
   stamped_single i c l kind None one = λ e. (one, as_it_was M.bank s)
   stamped_single i c l kind (Some t) one = (one, as_it_was M.bank s)
 
-  line_single : (i c : ℕ) (l : Line S V) (kind : Kind) → One-cell s M.bank M.bank → IsSingle (stamp_line m M s i l c kind)
+  line_single : (i c : ℕ) (l : Line S V) (kind : Kind) → OneCell s M.bank M.bank → IsSingle (stamp_line m M s i l c kind)
   line_single i c l Write one = stamped_single i c l Write (m.next l.stamp s) one
   line_single i c l Read one = (one, as_it_was M.bank s)
 
   collect_single : (i c : ℕ) (l : Line S V) (a : Result (Record S V) Refusal) → (read M.bank choice (c + 1) s).0 ≡ a → Unspent a → IsSingle (collect m M s i c l a M.bank)
   collect_single i c l (Err e) is unspent = λ spent. absurd (unspent spent)
   collect_single i c l (Ok x) is unspent =
-      let one : One-cell s M.bank M.bank = one_read (c + 1) choice x (ap (λ (k : Result (Record S V) Refusal). (k, M.bank)) is) refl in
+      let one : OneCell s M.bank M.bank = one_read (c + 1) choice x (ap (λ (k : Result (Record S V) Refusal). (k, M.bank)) is) refl in
       cond_both (eqb (c + 1) M.stations) _ _ IsSingle
       (λ last. line_single i (c + 1) (collected m l x) l.kind one)
       (λ more. (one, as_it_was M.bank s))

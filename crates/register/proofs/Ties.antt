@@ -42,8 +42,8 @@ pub record Point (S V : Type 0) : Type 0 where
 
 module _ {S V : Type 0} where
   -- an accepted step: the register's move, and the line that was put
-  pub moved : (r after : Register S V) (bank later-bank : Meaning (Record S V)) (lines later put : List (Line S V)) (s : ℕ) (row : Row) → ((b : Meaning (Record S V)) (ls : List (Line S V)) → seen after b ls ≡ next_machine (seen r b ls) b ls r.used s row) → later ≡ put → seen after later-bank later ≡ next_machine (seen r bank lines) later-bank put r.used s row
-  moved r after bank later-bank lines later put s row went is = went later-bank later ∙ ap (λ ls. next_machine (seen r bank lines) later-bank ls r.used s row) is
+  pub moved : (r after : Register S V) (bank later_bank : Meaning (Record S V)) (lines later put : List (Line S V)) (s : ℕ) (row : Row) → ((b : Meaning (Record S V)) (ls : List (Line S V)) → seen after b ls ≡ next_machine (seen r b ls) b ls r.used s row) → later ≡ put → seen after later_bank later ≡ next_machine (seen r bank lines) later_bank put r.used s row
+  moved r after bank later_bank lines later put s row went is = went later_bank later ∙ ap (λ ls. next_machine (seen r bank lines) later_bank ls r.used s row) is
 
   -- the same of a register, its bank of the type B, and the lines of its journal
   abbrev pub point_of : {B : Type 0} → Make S → (B → Meaning (Record S V)) → (B → ℕ → ℕ → Bool) → Register S V → B → List (Line S V) → ℕ → ℕ → ℕ → Line S V → Point S V

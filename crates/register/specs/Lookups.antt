@@ -1,6 +1,6 @@
 -- What the lookup of a station's last finished write answers. Assumes nothing.
 --     last_write M s          the lookup for station s: the number of a line, or that there is none
---     Finished-write ls u s k line k of ls is one of the u in use, and is a done write of station s
+--     FinishedWrite ls u s k line k of ls is one of the u in use, and is a done write of station s
 --     LastWrite M s a        what an answer a of the lookup says: line a is a finished write of s, and no higher one is
 use Rattle.std.specs.Prelude.{◌≡◌, ℕ, zero, suc, ◌-◌, ◌<◌, ◌≤◌, Bool, true, false, cond, ◌&&◌, List, length, Some, None, Ok, Err, Option, Result, ◌==◌, nat_le}
 use Rattle.std.specs.List.{slice_get}
@@ -40,7 +40,7 @@ module _ {S V : Type 0} where
       (cond (inside M.stations s) (Ok (last_of M.lines s M.used)) (Err refusals.UnknownStation))
       (Err refusals.JournalSize)
 
-  pub record Finished-write (lines : List (Line S V)) (used s k : ℕ) : Type 0 where
+  pub record FinishedWrite (lines : List (Line S V)) (used s k : ℕ) : Type 0 where
     pub numbered : 1 ≤ k
     pub in_use : k ≤ used
     pub line : Line S V
@@ -51,9 +51,9 @@ module _ {S V : Type 0} where
 
   -- some line k: it is a finished write of s, and no higher one is; none: no line is
   abbrev pub Highest : List (Line S V) → ℕ → ℕ → Option ℕ → Type 0
-  Highest lines used s None = (k : ℕ) → Finished-write lines used s k → ⊥
+  Highest lines used s None = (k : ℕ) → FinishedWrite lines used s k → ⊥
   Highest lines used s (Some k) =
-      Finished-write lines used s k × ((j : ℕ) → k < j → Finished-write lines used s j → ⊥)
+      FinishedWrite lines used s k × ((j : ℕ) → k < j → FinishedWrite lines used s j → ⊥)
 
   abbrev pub LastWrite : Machine S V → ℕ → Result (Option ℕ) Refusal → Type 0
   LastWrite M s (Ok o) = Highest M.lines M.used s o

@@ -3,7 +3,7 @@ ghost use Rattle.std.specs.Prelude.{◌≡◌, ℕ, ◌<◌, List, Result};
 ghost use Rattle.policy.specs.declared.refusal.Refusal.{Refusal};
 ghost use Rattle.banks.specs.Meanings.{Meaning};
 ghost use Rattle.banks.specs.declared.record.Record.{Record};
-ghost use Rattle.machine.specs.Machines.{Machine, fresh as fresh-line, open_line, open_write, open_read};
+ghost use Rattle.machine.specs.Machines.{Machine, fresh as fresh_line, open_line, open_write, open_read};
 ghost use Rattle.machine.specs.declared.line.Line.{Line};
 ghost use Rattle.stamps.specs.Makes.{Make};
 ghost use Rattle.register.specs.Reach.{Leads, Opens};
@@ -74,7 +74,7 @@ impl<S: Stamp, V: Copy> Register<S, V> {
     // The line of an operation as its open leaves it: collecting, with the starting stamp.
     fn fresh(&self, station: u8, kind: Kind, value: V) -> Line<S, V>
         requires { self.now.used < self.now.size }
-        ensures { (bank : Meaning (Record S V)) (lines : List (Line S V)) → result ≡ fresh-line (seen self.now bank lines) station kind value }
+        ensures { (bank : Meaning (Record S V)) (lines : List (Line S V)) → result ≡ fresh_line (seen self.now bank lines) station kind value }
     {
         Line {
             kind,
