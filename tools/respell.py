@@ -98,11 +98,15 @@ def main():
     if "--look" in sys.argv:
         print(len(new), "names")
         return
-    word = re.compile(r"(?<![\w'◌-])(%s)(?![\w'-])" % "|".join(sorted(map(re.escape, new), key=len, reverse=True)))
-    turned = lambda t: word.sub(lambda m: new[m[1]], t)
+    pattern = lambda some: re.compile(r"(?<![\w'◌-])(%s)(?![\w'-])" % "|".join(sorted(map(re.escape, some), key=len, reverse=True))) if some else None
+    every, own = pattern(new), pattern(own_names() & names)
+    turned = lambda t, word=every: word.sub(lambda m: new[m[1]], t) if word else t
     for path in files(".antt", ".rt", ".edit"):
         text = read(path)
-        if path.endswith(".antt"):
+        if os.path.basename(path) in ("Answers.antt", "Invariants.antt", "Proof.antt"):
+            # a step of the code may have the name of a variable elsewhere
+            made = turned(text, own)
+        elif path.endswith(".antt"):
             made = turned(text)
         else:
             made = "".join(p if p.startswith('"') else turned(p) for p in re.split(r'("(?:[^"\\\n]|\\.)*")', text))
