@@ -98,7 +98,7 @@ def main():
     if "--look" in sys.argv:
         print(len(new), "names")
         return
-    pattern = lambda some: re.compile(r"(?<![\w'◌-])(%s)(?![\w'-])" % "|".join(sorted(map(re.escape, some), key=len, reverse=True))) if some else None
+    pattern = lambda some: re.compile(r"(?<![\w'◌/-])(%s)(?![\w'-])" % "|".join(sorted(map(re.escape, some), key=len, reverse=True))) if some else None
     every, own = pattern(new), pattern(own_names() & names)
     turned = lambda t, word=every: word.sub(lambda m: new[m[1]], t) if word else t
     for path in files(".antt", ".rt", ".edit"):

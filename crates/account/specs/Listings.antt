@@ -102,7 +102,7 @@ pub record ListsAt (xs : List ℕ) (cs : List Command) (g : Game) : Type 0 where
   -- and as many lines follow
   pub full : g.machine.used ≤ length g.machine.lines
 
--- the list that examples/lost_link.hex prints at its command 24
+-- the list that examples/lost-link.hex prints at its command 24
 abbrev pub Worked : Type 0
 Worked =
     read_list (codes "lines 3\nW 1 spreading 1.1 9 1 0\nR 2 done 1.1 9 9 18\nR 3 collecting 0.0 7 19 0")
