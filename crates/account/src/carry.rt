@@ -8,11 +8,11 @@ use crate::outcome::Outcome;
 use banks::bank::{Bank, Mark};
 use banks::record::Record;
 use commands::command::Command;
-use journal::Journal;
 use machine::line::Line;
 use machine::row::Stepped;
 use policy::entry::PolicyNumber;
 use policy::refusal::Refusal;
+use register::journal::Journal;
 use register::register::Register;
 use stamps::PairStamp;
 

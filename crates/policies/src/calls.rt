@@ -7,10 +7,10 @@ ghost use Rattle.policies.specs.Calls.{answering};
 
 use banks::bank::{Bank, Mark};
 use banks::record::Record;
-use journal::Journal;
 use machine::line::Line;
 use machine::row::Stepped;
 use policy::refusal::Refusal;
+use register::journal::Journal;
 use register::register::Register;
 use stamps::Stamp;
 

@@ -2,5 +2,8 @@
 #![tactic(auto)]
 
 pub mod cells;
+pub mod journal;
 pub mod marks;
 pub mod register;
+pub mod stage;
+pub mod table;

@@ -2,8 +2,8 @@
 ghost use Rattle.std.specs.Prelude.{◌+◌, ◌*◌, ◌≤◌, sum_by};
 ghost use Rattle.register.specs.Owing.{owed, past};
 
+use crate::table::Table;
 use banks::record::Record;
-use station_table::Table;
 
 pub mod calls;
 pub mod counts;

@@ -13,10 +13,10 @@ ghost use Rattle.register.specs.Reach.{Leads};
 ghost use Rattle.register.specs.Seen.{seen};
 
 use banks::record::Record;
-use journal::Journal;
 use machine::line::Line;
 use machine::row::Stepped;
 use policy::refusal::Refusal;
+use register::journal::Journal;
 use register::register::Register;
 use stamps::Stamp;
 use table_banks::board::Board;

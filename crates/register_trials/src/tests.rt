@@ -1,10 +1,10 @@
 // A register of two stations, for every bank; and these trials over a board and a post, with pair stamps.
 use banks::bank::{Bank, Mark};
 use banks::record::Record;
-use journal::Journal;
 use machine::line::{Kind, Line, LineState};
 use machine::row::Stepped;
 use policy::refusal::Refusal;
+use register::journal::Journal;
 use register::register::Register;
 use stamps::{PairStamp, Stamp};
 use std::alloc::Global;

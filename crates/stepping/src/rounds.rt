@@ -1,10 +1,10 @@
 // Rounds of operations: every station opens one, and takes its steps.
 use anyhow::anyhow;
 use banks::record::Record;
-use journal::Journal;
 use machine::line::{Kind, Line, LineState};
 use policy::entry::PolicyNumber;
 use policy::refusal::Refusal;
+use register::journal::Journal;
 use register::register::Register;
 use stamps::{PairStamp, Stamp};
 use std::alloc::Global;

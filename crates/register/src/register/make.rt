@@ -6,14 +6,14 @@ ghost use Rattle.banks.specs.declared.record.Record.{Record};
 ghost use Rattle.machine.specs.Machines.{Machine};
 ghost use Rattle.register.specs.Makings.{making, seen_made, LawfulMade};
 
+use crate::journal::Journal;
 use crate::register::{LINES, Register};
+use crate::table::Table;
 use banks::bank::Bank;
 use banks::record::Record;
-use journal::Journal;
 use machine::line::Line;
 use policy::refusal::Refusal;
 use stamps::Stamp;
-use station_table::Table;
 
 impl<S: Stamp, V: Copy> Register<S, V> {
     // A register over a bank, which is filled with the starting value under the first stamp for the starting count, and an empty journal of that size. Refused by 1, 5, 2, 8.

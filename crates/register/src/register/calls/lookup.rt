@@ -5,8 +5,8 @@ ghost use Rattle.banks.specs.declared.record.Record.{Record};
 ghost use Rattle.register.specs.Lookups.{last_write, last_of, LastWrite, Highest, done_write_of};
 ghost use Rattle.register.specs.Seen.{seen};
 
+use crate::journal::Journal;
 use crate::register::Register;
-use journal::Journal;
 use machine::line::{Kind, Line, LineState};
 use policy::refusal::Refusal;
 

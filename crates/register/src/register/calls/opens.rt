@@ -9,8 +9,8 @@ ghost use Rattle.stamps.specs.Makes.{Make};
 ghost use Rattle.register.specs.Reach.{Leads, Opens};
 ghost use Rattle.register.specs.Seen.{seen};
 
+use crate::journal::Journal;
 use crate::register::Register;
-use journal::Journal;
 use machine::line::{Kind, Line, LineState};
 use machine::row::Row;
 use policy::refusal::Refusal;

@@ -15,15 +15,15 @@ ghost use Rattle.register.specs.Single.{Single};
 ghost use Rattle.register.specs.Stages.{choice_at};
 
 use crate::cells::{collect_into, spread};
+use crate::journal::Journal;
 use crate::register::Register;
+use crate::stage::Stage;
 use banks::bank::Bank;
 use banks::record::Record;
-use journal::Journal;
 use machine::line::{Kind, Line, LineState};
 use machine::row::{Row, Stepped};
 use policy::refusal::Refusal;
 use stamps::Stamp;
-use station_table::stage::Stage;
 
 impl<S: Stamp, V: Copy> Register<S, V> {
     // The next step of a station's operation: one read, start or finish of a cell. Refused by 8, 4, 13, 15, 14.

@@ -1,0 +1,2 @@
+// The journal, from its own crate.
+pub use journal_lines::Journal;

@@ -1,0 +1,2 @@
+// The station table, from its own crate.
+pub use station_table::Table;
