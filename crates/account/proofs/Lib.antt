@@ -1,13 +1,10 @@
-mod Carrying
 mod Founding
 mod Lawful
-mod Listing
+pub mod Listing
 mod Listings
 mod ListingsCells
 mod ListingsFiles
 mod ListingsSizes
 mod ListingsWords
-mod Pieces
-mod Playing
+pub mod Pieces
 mod Prefixes
-mod Spelling

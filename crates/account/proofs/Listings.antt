@@ -37,8 +37,8 @@ same_line k l e =
 
 same_lines : (ks ls : List Entry) → map printed ks ≡ map printed ls → ks ≡ ls
 same_lines [] [] e = refl
-same_lines [] (l ∷ ls) e = let z : ◌≡◌ {A = ℕ} 0 1 = cc in absurd (omega arith)
-same_lines (k ∷ ks) [] e = let z : ◌≡◌ {A = ℕ} 0 1 = cc in absurd (omega arith)
+same_lines [] (l ∷ ls) e = cc
+same_lines (k ∷ ks) [] e = cc
 same_lines (k ∷ ks) (l ∷ ls) e =
     let heads : printed k ≡ printed l = cc in
     let tails : map printed ks ≡ map printed ls = cc in

@@ -16,7 +16,6 @@ use Rattle.machine.specs.declared.line.Kind.{Kind}
 use Rattle.machine.specs.declared.line.Kind.TheVariants.{Write, Read}
 use Rattle.machine.specs.declared.row.Row.{Row}
 use Rattle.machine.specs.declared.row.Row.TheVariants.{Idle, Busy}
-use Rattle.machine.specs.declared.row.Stepped.{Stepped}
 use Rattle.account.specs.Games.{Played}
 use Rattle.account.specs.Listings.{Entry, Sized}
 use Rattle.account.proofs.ListingsCells.{Cell, Held, Banked, read_held, start_held, finish_held}
@@ -63,7 +62,7 @@ collected_sized l x sized held =
 
 module _ (t : ℕ) (M : Played) (w : Within t M) (short : t + 1 < 2 ^ 64) where
   abbrev Answer : Type 0
-  Answer = Result (Stepped PairStamp PolicyNumber) Refusal × Played
+  Answer = Result (Option Cell) Refusal × Played
 
   abbrev Leaves : Answer → Type 0
   Leaves a = Within (t + 1) a.1

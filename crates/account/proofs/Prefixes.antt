@@ -24,14 +24,14 @@ same_command b k zs ys =
     (λ w enough. let is : k ≡ 2 = cc in cc (at 0 (omega arith), at 1 (omega arith)))
     (λ w enough. let is : k ≡ 2 = cc in cc (at 0 (omega arith), at 1 (omega arith)))
     (λ w enough. refl)
-    (λ b none w enough. let z : ◌≡◌ {A = ℕ} 0 1 = cc in absurd (omega arith))
+    (λ b none w enough. cc)
     b
   where
     at : (i : ℕ) → i < length zs → get_or (zs ++ ys) i 0 ≡ get_or zs i 0
     at i h = get_or_append_left zs ys 0 i h
 
 decoded_more_at : (o : Option ℕ) (b : ℕ) (zs ys : List ℕ) (c : Command) (rest : List ℕ) → width b ≡ o → decoded_at o b zs ≡ Ok (Some (c, rest)) → decoded_at o b (zs ++ ys) ≡ Ok (Some (c, rest ++ ys))
-decoded_more_at None b zs ys c rest w e = let z : ◌≡◌ {A = ℕ} 0 1 = cc in absurd (omega arith)
+decoded_more_at None b zs ys c rest w e = cc
 decoded_more_at (Some k) b zs ys c rest w e =
     let t = taken b k zs c rest e in
     let enough : leb k (length (zs ++ ys)) ≡ true = le-leb k (length (zs ++ ys)) (omega (arith, length-append zs ys, t.0)) in
@@ -40,7 +40,7 @@ decoded_more_at (Some k) b zs ys c rest w e =
     cond-true (leb k (length (zs ++ ys))) _ _ enough ∙ cc
 
 decoded_more : (xs ys : List ℕ) (c : Command) (rest : List ℕ) → decoded xs ≡ Ok (Some (c, rest)) → decoded (xs ++ ys) ≡ Ok (Some (c, rest ++ ys))
-decoded_more [] ys c rest e = let z : ◌≡◌ {A = ℕ} 0 1 = cc in absurd (omega arith)
+decoded_more [] ys c rest e = cc
 decoded_more (b ∷ zs) ys c rest e = decoded_more_at (width b) b zs ys c rest refl e
 
 -- a file that is read to its end, and what follows it
@@ -60,8 +60,7 @@ joined_at xs ys shorter_joined (Ok (Some p)) e end =
     ∙ ap (λ (r : Reading). record { commands = p.0 ∷ r.commands; stop = r.stop }) joined
     ∙ sym (ap (followed ys) more)
 joined_at xs ys shorter_joined (Err x) e end =
-    let stopped = ap (λ (r : Reading). r.stop) (reading_stop xs x e) in
-    let z : ◌≡◌ {A = ℕ} 0 1 = cc in absurd (omega arith)
+    let stopped = ap (λ (r : Reading). r.stop) (reading_stop xs x e) in cc
 
 joined_within : (k : ℕ) (xs ys : List ℕ) → length xs < k → Complete xs → Joined xs ys
 joined_within zero xs ys few end = absurd (omega arith)

@@ -1,13 +1,18 @@
 -- A game of the code, as the game of the definitions. Assumes nothing.
---     seen_game meaning a         what making a game answered, with the machine in the place of the game; meaning: of its bank
---     going choice M              a game that goes on
---     begun meaning chooses a     the words of a make that answered a, and the game after it
---     stage_game s                the game of a stage, if one is made
---     told o s                    the words of the outcome o that led to the stage s, and the game of that stage
---     Steady chooses              what a bank chooses is the same in all its states and cells
-use Rattle.std.specs.Prelude.{◌≡◌, ℕ, Bool, true, false, List, [], Some, None, Ok, Err, vec_items, codes, Option, Result}
+--     bank_meaning b          what the bank b means
+--     choice_of b             whether a read of it answers the open record of a cell
+--     open_first kind         the same of a bank of that kind
+--     seen_game g             the game g
+--     game_of g               the same, if one is made
+--     begun r                 the words of the first command, and the game after it
+--     game_said a g           the words of the answer a that left the game g
+--     game_told a g           the same, and the game
+--     reply g r               the words of the command r that was read, or of the refusal, and the game after it
+use Rattle.std.specs.Prelude.{ℕ, Bool, true, false, List, [], Some, None, Ok, Err, vec_items, codes, Option, Result}
 use Rattle.policy.specs.declared.entry.PolicyNumber.{PolicyNumber}
 use Rattle.policy.specs.declared.refusal.Refusal.{Refusal}
+use Rattle.commands.specs.declared.bank.BankKind.{BankKind}
+use Rattle.commands.specs.declared.bank.BankKind.TheVariants as kinds
 use Rattle.commands.specs.declared.command.Command.{Command}
 use Rattle.banks.specs.Meanings.{Meaning}
 use Rattle.banks.specs.declared.record.Record.{Record}
@@ -16,36 +21,40 @@ use Rattle.table_banks.specs.Boards.{board_meaning}
 use Rattle.table_banks.specs.Posts.{post_meaning}
 use Rattle.machine.specs.declared.line.Line.{Line}
 use Rattle.register.specs.Seen.{seen}
-use Rattle.account.specs.Games.{Played}
+use Rattle.account.specs.Games.{Answer}
 use Rattle.account.specs.Texts as texts
 use Rattle.account.specs.Words.{refusal_said, said}
+use Rattle.account.specs.declared.bank.AnyBank.{AnyBank}
+use Rattle.account.specs.declared.bank.AnyBank.TheVariants.{Board, Post}
 use Rattle.account.specs.declared.game.Game.{Game}
-use Rattle.account.specs.declared.outcome.Outcome.{Outcome}
-use Rattle.account.specs.declared.stage.Stage.{Stage}
-use Rattle.account.specs.declared.stage.Stage.TheVariants.{Unmade, OnBoard, OnPost}
 
-abbrev pub going : Bool → Played → Option texts.Game
-going choice M = Some (record { choice = choice; machine = M })
+-- what a cell holds
+abbrev pub Cell : Type 0
+Cell = Record PairStamp PolicyNumber
 
-module _ {B : Type 0} where
-  abbrev pub seen_made : (B → Meaning (Record PairStamp PolicyNumber)) → Game B → Played
-  seen_made meaning g = seen g.register (meaning g.bank) (vec_items g.lines)
+abbrev pub bank_meaning : AnyBank → Meaning Cell
+bank_meaning (Board b) = board_meaning b
+bank_meaning (Post b) = post_meaning b
 
-  abbrev pub seen_game : (B → Meaning (Record PairStamp PolicyNumber)) → Result (Game B) Refusal → Result Played Refusal
-  seen_game meaning (Ok g) = Ok (seen_made meaning g)
-  seen_game meaning (Err e) = Err e
+abbrev pub choice_of : AnyBank → Bool
+choice_of (Board b) = true
+choice_of (Post b) = false
 
-  abbrev pub begun : (B → Meaning (Record PairStamp PolicyNumber)) → (B → ℕ → ℕ → Bool) → Result (Game B) Refusal → List ℕ × Option texts.Game
-  begun meaning chooses (Ok g) = (codes "ok", going (chooses g.bank 0 0) (seen_made meaning g))
-  begun meaning chooses (Err e) = (refusal_said e, None)
+-- a board
+abbrev pub open_first : BankKind → Bool
+open_first kinds.Board = true
+open_first kinds.Post = false
 
-  abbrev pub Steady : (B → ℕ → ℕ → Bool) → Type 0
-  Steady chooses = (b c : B) (w r : ℕ) → chooses b w r ≡ chooses c 0 0
+abbrev pub seen_game : Game → texts.Game
+seen_game g = record { choice = choice_of g.bank; machine = seen g.register (bank_meaning g.bank) (vec_items g.lines) }
 
-abbrev pub stage_game : Stage → Option texts.Game
-stage_game Unmade = None
-stage_game (OnBoard g) = going true (seen_made board_meaning g)
-stage_game (OnPost g) = going false (seen_made post_meaning g)
+abbrev pub game_of : Option Game → Option texts.Game
+game_of None = None
+game_of (Some g) = Some (seen_game g)
+
+abbrev pub begun : Result Game Refusal → List ℕ × Option texts.Game
+begun (Ok g) = (codes "ok", Some (seen_game g))
+begun (Err e) = (refusal_said e, None)
 
 -- of the journal, if there is one
 abbrev pub game_used : Option texts.Game → ℕ
@@ -56,11 +65,11 @@ abbrev pub game_lines : Option texts.Game → List (Line PairStamp PolicyNumber)
 game_lines None = []
 game_lines (Some g) = g.machine.lines
 
-abbrev pub game_told : Outcome → Option texts.Game → List ℕ × Option texts.Game
-game_told o g = (said (game_used g) (game_lines g) o, g)
+abbrev pub game_said : Answer → Option texts.Game → List ℕ
+game_said a g = said (game_used g) (game_lines g) a
 
-abbrev pub told : Outcome → Stage → List ℕ × Option texts.Game
-told o s = game_told o (stage_game s)
+abbrev pub game_told : Answer → Option texts.Game → List ℕ × Option texts.Game
+game_told a g = (game_said a g, g)
 
 -- a command that was read, or the refusal that ended the reading
 abbrev pub reply : Option texts.Game → Result Command Refusal → List ℕ × Option texts.Game

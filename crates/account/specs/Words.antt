@@ -2,8 +2,8 @@
 --     line k words            the line of the command with the number k
 --     refusal_said e          a refusal: no, its number, and behind 15 the place
 --     journal_said ls         journal lines, each on a line of its own, with the line's end before it
---     said M o                the words of an outcome that left the machine M
-use Rattle.std.specs.Prelude.{ℕ, List, [], ◌∷◌, ◌++◌, take, codes, decimal}
+--     said used ls a          the words of what a command came to, or of its refusal, which left so many lines of ls in use
+use Rattle.std.specs.Prelude.{ℕ, List, [], ◌∷◌, ◌++◌, take, Ok, Err, codes, decimal, Result}
 use Rattle.policy.specs.Refusals.{shown_refusal}
 use Rattle.policy.specs.declared.entry.PolicyNumber.{PolicyNumber}
 use Rattle.policy.specs.declared.refusal.Refusal.{Refusal}
@@ -16,7 +16,7 @@ use Rattle.machine.specs.declared.line.LineState.{LineState}
 use Rattle.machine.specs.declared.line.LineState.TheVariants as states
 use Rattle.machine.specs.declared.line.Line.{Line}
 use Rattle.account.specs.declared.outcome.Outcome.{Outcome}
-use Rattle.account.specs.declared.outcome.Outcome.TheVariants.{Accepted, Done, Refused, Listed}
+use Rattle.account.specs.declared.outcome.Outcome.TheVariants.{Accepted, Done, Listed}
 
 abbrev pub line : ℕ → List ℕ → List ℕ
 line k words = decimal k ++ (codes " " ++ (words ++ codes "\n"))
@@ -51,8 +51,8 @@ list_said used ls = codes "lines " ++ (decimal used ++ journal_said (take used l
 abbrev pub refusal_said : Refusal → List ℕ
 refusal_said e = codes "no " ++ shown_refusal e
 
-abbrev pub said : ℕ → List (Line PairStamp PolicyNumber) → Outcome → List ℕ
-said used ls Accepted = codes "ok"
-said used ls (Done s v) = codes "done " ++ record_said s v
-said used ls (Refused e) = refusal_said e
-said used ls Listed = list_said used ls
+abbrev pub said : ℕ → List (Line PairStamp PolicyNumber) → Result Outcome Refusal → List ℕ
+said used ls (Ok Accepted) = codes "ok"
+said used ls (Ok (Done x)) = codes "done " ++ record_said x.tag x.value
+said used ls (Ok Listed) = list_said used ls
+said used ls (Err e) = refusal_said e

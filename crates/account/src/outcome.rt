@@ -1,14 +1,12 @@
-// What a command came to.
-use policy::entry::PolicyNumber;
-use policy::refusal::Refusal;
-use stamps::PairStamp;
+// What a command comes to.
+use crate::game::Cell;
 
+// What an accepted command comes to.
 #[derive(Clone, Copy)]
 pub enum Outcome {
     Accepted,
-    // the last finish of an operation: its stamp and its value
-    Done(PairStamp, PolicyNumber),
-    Refused(Refusal),
+    // the last finish of an operation: its record
+    Done(Cell),
     // the journal is to be listed
     Listed,
 }

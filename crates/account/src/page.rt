@@ -1,7 +1,8 @@
-// A page: a buffer of fixed size, and how much of it is text.
-ghost use Rattle.std.specs.Prelude.{◌≡◌, ◌≤◌, length};
+// A page: text in fixed memory, so that no line is cut for want of memory.
+use arrayvec::ArrayVec;
 
 mod calls;
+mod words;
 
 // How many bytes a page has.
 const SIZE: usize = 131072;
@@ -11,8 +12,5 @@ const FULL: usize = 59776;
 
 #[derive(Drop)]
 pub struct Page {
-    bytes: [u8; SIZE],
-    used: usize,
-    ghost sized: { length bytes ≡ 131072 },
-    ghost within: { used ≤ 131072 },
+    text: ArrayVec<u8, SIZE>,
 }

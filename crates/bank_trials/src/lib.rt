@@ -4,6 +4,8 @@
 #[cfg(test)]
 mod calls;
 #[cfg(test)]
+mod heaped;
+#[cfg(test)]
 mod makes;
 #[cfg(test)]
 mod piles;

@@ -18,30 +18,24 @@ fn board_lines(heap: Global, lines: usize) -> Result<Vec<BoardLine<u32>>, AllocE
     vec![in heap; BLANK; lines]
 }
 
-// A board filled with 7, over just enough lines.
-pub fn board(heap: Global, stations: u8) -> Result<Board<u32>, Fail> {
-    let n = stations as usize;
-    match Board::new(stations, board_lines(heap, n * n)?, 7) {
-        Ok(bank) => Ok(bank),
-        Err((refusal, _)) => Err(Fail::new(refusal)),
-    }
+fn post_lines(heap: Global, lines: usize) -> Result<Vec<u32>, AllocError> {
+    vec![in heap; 1; lines]
 }
 
-// A post filled with 7, over just enough lines.
+// A board filled with 7, over just enough lines that held other records.
+pub fn board(heap: Global, stations: u8) -> Result<Board<u32>, Fail> {
+    let n = stations as usize;
+    Board::new(stations, board_lines(heap, n * n)?, 7).map_err(|(refusal, _)| Fail::new(refusal))
+}
+
+// A post filled with 7, the same.
 pub fn post(heap: Global, stations: u8) -> Result<Post<u32>, Fail> {
     let n = stations as usize;
-    let lines = vec![in heap; 1; n * n + n]?;
-    match Post::new(stations, lines, 7) {
-        Ok(bank) => Ok(bank),
-        Err((refusal, _)) => Err(Fail::new(refusal)),
-    }
+    Post::new(stations, post_lines(heap, n * n + n)?, 7).map_err(|(refusal, _)| Fail::new(refusal))
 }
 
 pub fn renumbered<B: Bank<u32> + Drop>(below: B, list: &[u8]) -> Result<Renumbering<B>, Fail> {
-    match Renumbering::new::<u32>(below, list) {
-        Ok(layer) => Ok(layer),
-        Err((refusal, _)) => Err(Fail::new(refusal)),
-    }
+    Renumbering::new::<u32>(below, list).map_err(|(refusal, _)| Fail::new(refusal))
 }
 
 pub fn split<B: Bank<u32> + Drop, C: Bank<u32> + Drop>(
@@ -49,26 +43,28 @@ pub fn split<B: Bank<u32> + Drop, C: Bank<u32> + Drop>(
     second: C,
     point: u8,
 ) -> Result<Split<B, C>, Fail> {
-    match Split::new::<u32>(first, second, point) {
-        Ok(layer) => Ok(layer),
-        Err((refusal, _, _)) => Err(Fail::new(refusal)),
-    }
+    Split::new::<u32>(first, second, point).map_err(|(refusal, _, _)| Fail::new(refusal))
 }
 
-// The refusal of a board on a table of so many lines, which comes back whole.
+// The refusal of a bank on a table of so many lines, which comes back whole.
+fn refused<B: Drop, L: Drop>(
+    rt: &impl Abort,
+    made: Result<B, (Refusal, Vec<L>)>,
+    lines: usize,
+) -> Result<Refusal, Fail> {
+    let (refusal, table) = made.err().ok_or("made")?;
+    assert_eq!(rt; table.len(), lines);
+    Ok(refusal)
+}
+
 fn board_refused(
     rt: &impl Abort,
     heap: Global,
     stations: u8,
     lines: usize,
 ) -> Result<Refusal, Fail> {
-    match Board::new(stations, board_lines(heap, lines)?, 7) {
-        Ok(_) => Err(Fail::new("made")),
-        Err((refusal, table)) => {
-            assert_eq!(rt; table.len(), lines);
-            Ok(refusal)
-        }
-    }
+    let table = board_lines(heap, lines)?;
+    refused(rt, Board::new(stations, table, 7), lines)
 }
 
 fn post_refused(
@@ -77,14 +73,8 @@ fn post_refused(
     stations: u8,
     lines: usize,
 ) -> Result<Refusal, Fail> {
-    let table = vec![in heap; 1; lines]?;
-    match Post::new(stations, table, 7) {
-        Ok(_) => Err(Fail::new("made")),
-        Err((refusal, table)) => {
-            assert_eq!(rt; table.len(), lines);
-            Ok(refusal)
-        }
-    }
+    let table = post_lines(heap, lines)?;
+    refused(rt, Post::new(stations, table, 7), lines)
 }
 
 #[test]
@@ -110,18 +100,14 @@ fn banks_are_refused(rt: HostRuntime) -> Result<(), Fail> {
 #[test]
 fn spare_lines_stay(rt: HostRuntime) -> Result<(), Fail> {
     let table = board_lines(rt.alloc(), 2)?;
-    match Board::new(1, table, 7) {
-        Ok(mut bank) => {
-            assert_eq!(rt; bank.start(1, 1, 9), Ok(()));
-            assert_eq!(rt; bank.finish(1), Ok(()));
-            let table = bank.into_table();
-            assert!(rt; table.len() == 2);
-            assert_eq!(rt; table[0].settled, 9);
-            assert_eq!(rt; table[1].opened, 2);
-            Ok(())
-        }
-        Err(_) => Err(Fail::new("refused")),
-    }
+    let mut bank = Board::new(1, table, 7).map_err(|(refusal, _)| Fail::new(refusal))?;
+    assert_eq!(rt; bank.start(1, 1, 9), Ok(()));
+    assert_eq!(rt; bank.finish(1), Ok(()));
+    let table = bank.into_table();
+    assert!(rt; table.len() == 2);
+    assert_eq!(rt; table[0].settled, 9);
+    assert_eq!(rt; table[1].opened, 2);
+    Ok(())
 }
 
 // Whether a list renumbers two stations.

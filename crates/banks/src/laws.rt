@@ -1,15 +1,9 @@
-// What holds of every bank, in the words of cells: calls whose contracts carry the laws.
+// What holds of every bank, in the words of cells: a call whose contract carries the laws.
 ghost use Rattle.std.specs.Prelude.{◌≡◌};
 ghost use Rattle.banks.specs.Meanings.{Meaning, filled};
 ghost use Rattle.banks.specs.Histories.{RegularFrom, Undisturbed};
 
 use crate::bank::Bank;
-
-// Filled with any record, every bank has regular cells from then on; and no call on one writer's cells changes what reads of another's may answer.
-fn cell_laws<R>()
-    ensures regular { (m : Meaning R) (x : R) → RegularFrom m x }
-    ensures undisturbed { (m : Meaning R) → Undisturbed m }
-{}
 
 // Fills a bank. After whatever calls follow, its cells are regular, and no call on one writer's cells changes what reads of another's may answer.
 pub fn fill_regular<R: Copy, B: Bank<R>>(bank: &mut B, x: R)
@@ -17,6 +11,5 @@ pub fn fill_regular<R: Copy, B: Bank<R>>(bank: &mut B, x: R)
     ensures regular { RegularFrom (B.Bank.meaning bank.old) x }
     ensures undisturbed { (m : Meaning R) → Undisturbed m }
 {
-    cell_laws::<R>();
     bank.fill(x);
 }

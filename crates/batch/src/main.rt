@@ -4,16 +4,15 @@
 ghost use Rattle.std.specs.Prelude.{◌<◌, length, IfSome};
 
 use account::play::play;
+use commands::input::LIMIT;
 use std::io::{Read, Write};
-
-// The most bytes of a file that are replayed.
-const LIMIT: usize = 65536;
 
 fn main(rt: HostRuntime) -> anyhow::Result<()> {
     let heap = rt.alloc();
     let mut input = Vec::new(heap);
     rt.stdin().read_to_end(&mut input)?;
     let mut rest = input.as_slice();
+    // no iterator of files: what it gives and leaves would have to be stated for one loop
     while let Some((file, behind)) = next_file(rest) {
         let text = play(heap, file)?;
         rt.stdout().write_all(&text)?;
@@ -27,13 +26,8 @@ fn main(rt: HostRuntime) -> anyhow::Result<()> {
 fn next_file(stream: &[u8]) -> Option<(&[u8], &[u8])>
     ensures { IfSome result (λ p. length p.1.now < length stream.now) }
 {
-    let &[l3, l2, l1, l0, ref behind @ ..] = stream else {
-        return None;
-    };
-    let size = u32::from_be_bytes([l3, l2, l1, l0]) as usize;
-    if size > behind.len() {
-        return None;
-    }
-    let replayed = size.min(LIMIT);
-    Some((&behind[0..replayed], &behind[size..]))
+    let (size, rest) = stream.split_first_chunk()?;
+    let size = u32::from_be_bytes(*size) as usize;
+    let (file, behind) = rest.split_at_checked(size)?;
+    Some((&file[..size.min(LIMIT)], behind))
 }

@@ -5,7 +5,7 @@ use policy::refusal::Refusal;
 use std::fmt::Debug;
 use std::io;
 
-// A record as its tag and value.
+// A record as its tag and value. One function for the three kinds of answers would want a type with a Display for each.
 fn show_read<V: Copy + Debug>(
     rt: &impl Print,
     writer: u8,

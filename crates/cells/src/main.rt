@@ -2,11 +2,10 @@
 #![tactic(auto)]
 
 mod drive;
-mod pile;
 
 use crate::drive::account;
-use crate::pile::pile;
 use banks::record::Record;
+use heap_banks::pile::pile;
 use policy::entry::{NameRule, PolicyEntry, PolicyNumber};
 
 fn numbered(tag: u32, number: u32) -> Record<u32, PolicyNumber> {
@@ -29,16 +28,12 @@ fn entered(tag: u32, number: u32, rule: NameRule) -> Record<u32, PolicyEntry> {
     }
 }
 
-fn run(rt: &HostRuntime) -> anyhow::Result<()> {
+fn main(rt: HostRuntime) -> anyhow::Result<()> {
     println!(rt; "policy numbers")?;
     let mut numbers = pile(rt.alloc(), numbered(0, 7))?;
-    account(rt, &mut numbers, numbered(1, 9))?;
+    account(&rt, &mut numbers, numbered(1, 9))?;
     println!(rt; "policy entries")?;
     let mut entries = pile(rt.alloc(), entered(0, 7, NameRule::Permitted))?;
-    account(rt, &mut entries, entered(1, 9, NameRule::Excluded))?;
+    account(&rt, &mut entries, entered(1, 9, NameRule::Excluded))?;
     Ok(())
-}
-
-fn main(rt: HostRuntime) -> anyhow::Result<()> {
-    run(&rt)
 }

@@ -1,4 +1,5 @@
-mod Accepted
+pub mod Inputs
+pub mod Outcomes
 pub mod RoundTrips
 pub mod ReadingLaws
 pub mod WholeFiles

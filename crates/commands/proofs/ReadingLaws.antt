@@ -1,21 +1,18 @@
 -- How a file is read, one command after another. Assumes nothing.
-use Rattle.std.proofs.Common.{◌≡◌, ℕ, zero, suc, ◌+◌, ◌^◌, ◌<◌, ◌≤◌, List, [], ◌∷◌, length, get_or, Some, None, Ok, Err, Option, refl, ap, ◌∙◌, subst, arith, length-drop}
+use Rattle.std.proofs.Common.{◌≡◌, ℕ, zero, suc, ◌+◌, ◌^◌, ◌<◌, List, [], ◌∷◌, length, get_or, Some, None, Ok, Err, refl, ap, ◌∙◌, subst, arith}
 use Rattle.std.proofs.lemmas.List.{get_or-drop}
+use Rattle.std.proofs.lemmas.Bool.Decides.{nat_tests}
+use Rattle.std.proofs.lemmas.Grind.{common_steps}
 use Rattle.policy.specs.declared.refusal.Refusal.{Refusal}
 use Rattle.commands.specs.declared.command.Command.{Command}
 use Rattle.commands.specs.declared.command.Command.TheVariants.{Make, Write, Read, Step, Down, Up, List as Lines}
-use Rattle.commands.specs.Commands.{Decoded, decoded, decoded_at, command, word, width}
+use Rattle.commands.specs.Commands.{Decoded, decoded, decoded_at, command, word}
 use Rattle.commands.specs.Readings.{Reading, Bytes, reading, reading_at, reading_within}
 use Rattle.commands.proofs.RoundTrips.{taken, by_byte}
 
-shorter_at : (o : Option ℕ) (b : ℕ) (xs : List ℕ) (c : Command) (rest : List ℕ) → decoded_at o b xs ≡ Ok (Some (c, rest)) → length rest ≤ length xs
-shorter_at None b xs c rest e = let z : ◌≡◌ {A = ℕ} 0 1 = cc in absurd (omega arith)
-shorter_at (Some k) b xs c rest e = omega (arith, ap length (taken b k xs c rest e).2, length-drop k xs)
-
 -- a command has at least one byte
 pub shorter : (xs : List ℕ) (c : Command) (rest : List ℕ) → decoded xs ≡ Ok (Some (c, rest)) → length rest < length xs
-shorter [] c rest e = let z : ◌≡◌ {A = ℕ} 0 1 = cc in absurd (omega arith)
-shorter (b ∷ xs) c rest e = omega (arith, shorter_at (width b) b xs c rest e)
+shorter xs c rest e = grind (arith, nat_tests, common_steps)
 
 same_at : (f g : List ℕ → Reading) (xs : List ℕ) → ((ys : List ℕ) → length ys < length xs → f ys ≡ g ys) → (d : Decoded) → decoded xs ≡ d → reading_at d f ≡ reading_at d g
 same_at f g xs alike (Ok None) e = refl
@@ -79,7 +76,7 @@ good_at b k xs bytes small c rest e =
     }
 
 pub good : (xs : List ℕ) → Bytes xs → (c : Command) (rest : List ℕ) → decoded xs ≡ Ok (Some (c, rest)) → Good c rest
-good [] all = λ c rest e. let z : ◌≡◌ {A = ℕ} 0 1 = cc in absurd (omega arith)
+good [] all = λ c rest e. cc
 good (b ∷ xs) all =
     let bytes : Bytes xs = λ i. all (suc i) in
     let at = λ (i : ℕ). small_byte xs i bytes in
@@ -92,5 +89,5 @@ good (b ∷ xs) all =
     (good_at 5 2 xs bytes (at 0, at 1))
     (good_at 6 2 xs bytes (at 0, at 1))
     (good_at 7 0 xs bytes tt)
-    (λ b none c rest e. let z : ◌≡◌ {A = ℕ} 0 1 = cc in absurd (omega arith))
+    (λ b none c rest e. cc)
     b

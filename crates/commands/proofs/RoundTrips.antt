@@ -1,11 +1,12 @@
 -- Decoding and encoding undo each other. Assumes nothing.
-use Rattle.std.proofs.Common.{◌≡◌, ℕ, suc, ◌+◌, ◌*◌, ◌/◌, ◌%◌, ◌^◌, ◌<◌, ◌≤◌, true, leb, List, [], ◌∷◌, ◌++◌, map, length, get_or, take, drop, Some, None, Ok, Err, sym, refl, ap, ◌∙◌, subst, ⊎_elim, arith}
+use Rattle.std.proofs.Common.{◌≡◌, ℕ, suc, ◌+◌, ◌^◌, ◌<◌, ◌≤◌, List, [], ◌∷◌, ◌++◌, map, length, get_or, take, drop, Some, None, Ok, sym, refl, ap, ◌∙◌, subst, ⊎_elim, arith, w8, Fits}
+use mir.Facts.{Fits-lt-pow}
 use Rattle.std.specs.List.{range_with_len}
 use Rattle.std.proofs.lemmas.List.FromFn.{fill_by_all}
 use Rattle.std.proofs.lemmas.List.{length-take-le, get_or-take, take-append-drop}
-use Rattle.std.proofs.lemmas.Bool.{cases_eq, cases_lt, le-leb, lt-leb, cond-true, cond-false}
+use Rattle.std.proofs.lemmas.Bool.{cases_eq}
 use Rattle.std.proofs.lemmas.Bool.Decides.{nat_tests}
-use Rattle.policy.specs.declared.refusal.Refusal.TheVariants.{CutShort}
+use Rattle.std.proofs.lemmas.Grind.{common_steps}
 use Rattle.commands.specs.declared.command.Command.{Command}
 use Rattle.commands.specs.declared.command.Command.TheVariants.{Make}
 use Rattle.commands.specs.Commands.{Reencoded, Redecoded, policy, decoded_at, encoded, bytes_of, word, command, width}
@@ -32,40 +33,12 @@ fronted k xs enough =
     let each = fill_by_all (λ i. get_or xs i 0) (take k xs) k 0 (length-take-le k xs enough) (λ i h. get_or-take k xs i 0 h) in
     sym (take-append-drop k xs) ∙ ap (λ ys. ys ++ drop k xs) each
 
-four_bytes : (a b c d : ℕ) → a < 256 → b < 256 → c < 256 → d < 256 → bytes_of (a * 16777216 + b * 65536 + c * 256 + d) ≡ a ∷ b ∷ c ∷ d ∷ []
-four_bytes a b c d la lb lc ld =
-    let n : ℕ = a * 16777216 + b * 65536 + c * 256 + d in
-    let e₁ : n / 16777216 % 256 ≡ a = omega arith in
-    let e₂ : n / 65536 % 256 ≡ b = omega arith in
-    let e₃ : n / 256 % 256 ≡ c = omega arith in
-    let e₄ : n % 256 ≡ d = omega arith in
-    cc
-
 bytes_of_word : (xs : List ℕ) (i : ℕ) → ((j : ℕ) → get_or xs j 0 < 256) → bytes_of (word xs i) ≡ get_or xs i 0 ∷ get_or xs (i + 1) 0 ∷ get_or xs (i + 2) 0 ∷ get_or xs (i + 3) 0 ∷ []
-bytes_of_word xs i small = four_bytes _ _ _ _ (small i) (small (i + 1)) (small (i + 2)) (small (i + 3))
-
--- four digits in the base 256
-digits : (n q₁ q₂ q₃ r₀ r₁ r₂ : ℕ) → n ≡ q₁ * 256 + r₀ → q₁ ≡ q₂ * 256 + r₁ → q₂ ≡ q₃ * 256 + r₂ → q₃ * 16777216 + r₂ * 65536 + r₁ * 256 + r₀ ≡ n
-digits n q₁ q₂ q₃ r₀ r₁ r₂ e₀ e₁ e₂ = omega arith
-
-pub word_of_bytes : (n : ℕ) → n < 2 ^ 32 → n / 16777216 % 256 * 16777216 + n / 65536 % 256 * 65536 + n / 256 % 256 * 256 + n % 256 ≡ n
-word_of_bytes n fits =
-    digits n (n / 256) (n / 65536) (n / 16777216 % 256) (n % 256) (n / 256 % 256) (n / 65536 % 256) (omega arith) (omega arith) (omega arith)
+bytes_of_word xs i small = grind (arith, small i, small (i + 1), small (i + 2), small (i + 3))
 
 -- what is decoded behind the byte b, whose operands are k bytes long
 pub taken : (b k : ℕ) (xs : List ℕ) (c : Command) (rest : List ℕ) → decoded_at (Some k) b xs ≡ Ok (Some (c, rest)) → (k ≤ length xs) × (command b xs ≡ c) × (drop k xs ≡ rest)
-taken b k xs c rest e =
-    ⊎_elim (λ short. absurd (refused (cond-false (leb k (length xs)) _ _ (lt-leb k (length xs) short))))
-    (λ enough. (enough, ap (λ p. p.0) (same enough), ap (λ p. p.1) (same enough)))
-    (cases_lt (length xs) k)
-  where
-    refused : decoded_at (Some k) b xs ≡ Err CutShort → ⊥
-    refused f = let z : ◌≡◌ {A = ℕ} 0 1 = cc in omega arith
-
-    same : k ≤ length xs → ◌≡◌ {A = Command × List ℕ} (command b xs, drop k xs) (c, rest)
-    same enough =
-        let f : decoded_at (Some k) b xs ≡ Ok (Some (command b xs, drop k xs)) = cond-true (leb k (length xs)) _ _ (le-leb k (length xs) enough) in
-        cc
+taken b k xs c rest e = grind (arith, nat_tests)
 
 -- the bytes of the command decoded behind the byte b, where its operands stand at the front of xs
 rejoined : (b k : ℕ) (xs : List ℕ) (c : Command) (rest : List ℕ) → decoded_at (Some k) b xs ≡ Ok (Some (c, rest)) → b ∷ map (λ i. get_or xs i 0) (range_with_len 0 k) ≡ encoded (command b xs) → b ∷ xs ≡ encoded c ++ rest
@@ -75,7 +48,7 @@ rejoined b k xs c rest e same =
     ap (λ ys. b ∷ ys) front ∙ ap (λ ys. ys ++ drop k xs) same ∙ cc (t.1, t.2)
 
 pub reencoded : (xs : List ℕ) → ((i : ℕ) → get_or xs i 0 < 256) → Reencoded xs
-reencoded [] small = λ c rest e. let z : ◌≡◌ {A = ℕ} 0 1 = cc in absurd (omega arith)
+reencoded [] small = λ c rest e. cc
 reencoded (b ∷ xs) small =
     let word_at = λ (i : ℕ). bytes_of_word xs i (λ j. small (suc j)) in
     by_byte (λ b. Reencoded (b ∷ xs))
@@ -86,12 +59,12 @@ reencoded (b ∷ xs) small =
     (λ c rest e. rejoined 5 2 xs c rest e refl)
     (λ c rest e. rejoined 6 2 xs c rest e refl)
     (λ c rest e. rejoined 7 0 xs c rest e refl)
-    (λ b none c rest e. let z : ◌≡◌ {A = ℕ} 0 1 = cc in absurd (omega arith))
+    (λ b none c rest e. cc)
     b
 
+-- the same of the bytes of a slice
+pub reencoded_typed : (xs : List ℕ) → ((i : ℕ) → Fits w8 (get_or xs i 0)) → Reencoded xs
+reencoded_typed xs typed = reencoded xs (λ i. Fits-lt-pow (typed i))
+
 pub make_redecoded : (bank stations n v : ℕ) → n < 2 ^ 32 → v < 2 ^ 32 → Redecoded (Make bank stations n (policy v))
-make_redecoded bank stations n v n_fits v_fits = λ rest.
-    let count = word_of_bytes n n_fits in
-    let value = word_of_bytes v v_fits in
-    let enough : leb 10 (length (bank ∷ stations ∷ (bytes_of n ++ bytes_of v) ++ rest)) ≡ true = le-leb 10 _ (omega arith) in
-    rw (enough, count, value)
+make_redecoded bank stations n v n_fits v_fits rest = grind (arith, nat_tests, common_steps)

@@ -1,24 +1,14 @@
 -- What a whole file that is read tells of its bytes. Assumes nothing.
-use Rattle.std.proofs.Common.{◌≡◌, ℕ, zero, suc, ◌<◌, ◌≤◌, Bool, true, false, cond, leb, List, [], ◌∷◌, ◌++◌, length, drop, Some, None, Ok, Err, Option, sym, refl, ap, ◌∙◌, subst, arith}
-use Rattle.policy.specs.declared.refusal.Refusal.TheVariants.{CutShort}
-use Rattle.commands.specs.declared.command.Command.{Command}
-use Rattle.commands.specs.Commands.{Decoded, decoded, decoded_at, command, width, encoded}
+use Rattle.std.proofs.Common.{◌≡◌, ℕ, zero, suc, ◌<◌, ◌≤◌, List, [], ◌++◌, length, Some, None, Ok, Err, sym, refl, ap, ◌∙◌, subst, arith}
+use Rattle.std.proofs.lemmas.Bool.Decides.{nat_tests}
+use Rattle.commands.specs.Commands.{Decoded, decoded, encoded}
 use Rattle.commands.specs.Readings.{Reading, Bytes, Complete, reading, bytes_of_all}
 use Rattle.commands.proofs.ReadingLaws.{AllSmall, good, shorter, reading_end, reading_stop, reading_more}
 use Rattle.commands.proofs.RoundTrips.{reencoded}
 
-not_the_end : (t : Bool) (p : Command × List ℕ) → ◌≡◌ {A = Decoded} (cond t (Ok (Some p)) (Err CutShort)) (Ok None) → ⊥
-not_the_end true p e = let z : ◌≡◌ {A = ℕ} 0 1 = cc in omega arith
-not_the_end false p e = let z : ◌≡◌ {A = ℕ} 0 1 = cc in omega arith
-
-not_end_at : (o : Option ℕ) (b : ℕ) (xs : List ℕ) → decoded_at o b xs ≡ Ok None → ⊥
-not_end_at None b xs e = let z : ◌≡◌ {A = ℕ} 0 1 = cc in omega arith
-not_end_at (Some k) b xs e = not_the_end (leb k (length xs)) (command b xs, drop k xs) e
-
 -- only the empty input is the end
 pub empty : (xs : List ℕ) → decoded xs ≡ Ok None → xs ≡ []
-empty [] e = refl
-empty (b ∷ xs) e = absurd (not_end_at (width b) b xs e)
+empty xs e = grind (arith, nat_tests)
 
 -- what is told of the bytes xs by the way in which they are read
 abbrev Told : List ℕ → Reading → Type 0
@@ -33,7 +23,7 @@ told_at xs bytes shorter_told (Ok (Some p)) e =
     subst (Told xs) (sym (reading_more xs p.0 p.1 e))
     ((g.small, more.0), λ end. reencoded xs bytes p.0 p.1 e ∙ ap (λ ys. encoded p.0 ++ ys) (more.1 end), omega arith)
 told_at xs bytes shorter_told (Err x) e =
-    subst (Told xs) (sym (reading_stop xs x e)) (tt, (λ end. let z : ◌≡◌ {A = ℕ} 0 1 = cc in absurd (omega arith)), omega arith)
+    subst (Told xs) (sym (reading_stop xs x e)) (tt, (λ end. cc), omega arith)
 
 told_within : (k : ℕ) (xs : List ℕ) → length xs < k → Bytes xs → Told xs (reading xs)
 told_within zero xs few bytes = absurd (omega arith)

@@ -7,6 +7,7 @@ use policy::entry::PolicyNumber;
 use policy::refusal::Refusal;
 
 // The first command of the input and what stands behind it; `None` at the end of the input.
+#[tactic(auto, using(crate::proofs::RoundTrips::reencoded_typed, std::proofs::lemmas::Bool::Decides::nat_tests))]
 pub fn decode(input: &[u8]) -> Result<Option<(Command, &[u8])>, Refusal>
     ensures value { seen result ≡ decoded input.now }
     ensures reencoded { Reencoded input.now }
@@ -55,9 +56,7 @@ mod tests {
         let mut again = Vec::new(rt.alloc());
         let mut rest: &[u8] = &FILE;
         for _ in 0..7 {
-            let Ok(Some((command, behind))) = decode(rest) else {
-                return Err(Fail::new("a command of the file is refused"));
-            };
+            let (command, behind) = decode(rest)?.ok_or("a command of the file is missing")?;
             command.encode(&mut again)?;
             rest = behind;
         }
@@ -80,9 +79,9 @@ mod tests {
     fn all_cuts(rt: &impl Abort, command: &[u8]) -> Result<(), Fail> {
         assert!(rt; decode(command).is_ok());
         for cut in 1..command.len() {
-            let Err(refusal) = decode(&command[0..cut]) else {
-                return Err(Fail::new("a command cut short is accepted"));
-            };
+            let refusal = decode(&command[0..cut])
+                .err()
+                .ok_or("a command cut short is accepted")?;
             assert_eq!(rt; refusal.number(), 10);
         }
         Ok(())
@@ -98,10 +97,7 @@ mod tests {
     }
 
     fn is_unknown(input: &[u8]) -> bool {
-        match decode(input) {
-            Err(refusal) => refusal.number() == 9,
-            Ok(_) => false,
-        }
+        decode(input).is_err_and(|refusal| refusal.number() == 9)
     }
 
     #[test]

@@ -1,5 +1,4 @@
 mod Lines
 mod Plain
-mod Pushes
 mod TextLaws
 mod Unsaid

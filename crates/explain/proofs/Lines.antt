@@ -1,29 +1,38 @@
--- The lines written so far, and those of the bytes that are left. Assumes nothing.
-use Rattle.std.proofs.Common.{◌≡◌, ℕ, suc, ◌+◌, List, ◌++◌, Some, None, Ok, Err, sym, ap, ◌∙◌, append_assoc, append-nil, add-one}
+-- The lines of what the file's commands give, one after another. Assumes nothing.
+use Rattle.std.proofs.Common.{◌≡◌, ℕ, suc, ◌+◌, ◌≤◌, List, [], ◌∷◌, ◌++◌, map, length, get_or, Some, None, Ok, Err, Option, Result, refl, ap, append-nil, arith, length-append, w8, Fits}
+use mir.Facts.{Fits-lt-pow}
+use Rattle.std.proofs.lemmas.List.{length-map}
 use Rattle.policy.specs.declared.refusal.Refusal.{Refusal}
 use Rattle.commands.specs.declared.command.Command.{Command}
-use Rattle.commands.specs.Commands.{decoded}
-use Rattle.commands.specs.Readings.{Reading, reading}
-use Rattle.commands.proofs.ReadingLaws.{reading_end, reading_stop, reading_more}
-use Rattle.explain.specs.Texts.{lines_from, line, said, refused}
+use Rattle.commands.specs.Words.{said}
+use Rattle.commands.specs.Readings.{reading}
+use Rattle.commands.specs.Files.{stopped, outcomes}
+use Rattle.commands.proofs.WholeFiles.{few_commands}
+use Rattle.explain.specs.Texts.{lines_from, line, refused, explained}
 
--- the lines of the bytes xs, the first with the number k
-abbrev pub left : ℕ → List ℕ → List ℕ
-left k xs = lines_from k (reading xs).commands (reading xs).stop
+-- a command or a refusal in words
+abbrev pub told : Result Command Refusal → List ℕ
+told (Ok c) = said c
+told (Err e) = refused e
 
-abbrev left_of : ℕ → Reading → List ℕ
-left_of k r = lines_from k r.commands r.stop
+-- their lines, the first with the number k
+abbrev pub lines_of : ℕ → List (Result Command Refusal) → List ℕ
+lines_of k [] = []
+lines_of k (o ∷ os) = line k (told o) ++ lines_of (suc k) os
 
-pub at_end : (k : ℕ) (xs out text : List ℕ) → Ok None ≡ decoded xs → out ++ left k xs ≡ text → out ≡ text
-at_end k xs out text e whole = sym (append-nil out) ∙ ap (λ r. out ++ left_of k r) (sym (reading_end xs (sym e))) ∙ whole
+each_line : (k : ℕ) (cs : List Command) (stop : Option Refusal) → lines_of k (map Ok cs ++ stopped stop) ≡ lines_from k cs stop
+each_line k [] None = refl
+each_line k [] (Some e) = append-nil (line k (refused e))
+each_line k (c ∷ cs) stop = ap (λ ys. line k (said c) ++ ys) (each_line (suc k) cs stop)
 
-pub at_stop : (k : ℕ) (xs out now text : List ℕ) (x : Refusal) → Err x ≡ decoded xs → now ≡ out ++ line k (refused x) → out ++ left k xs ≡ text → now ≡ text
-at_stop k xs out now text x e put whole = put ∙ ap (λ r. out ++ left_of k r) (sym (reading_stop xs x (sym e))) ∙ whole
+pub whole_text : (xs : List ℕ) → lines_of 1 (outcomes xs) ≡ explained xs
+whole_text xs = each_line 1 (reading xs).commands (reading xs).stop
 
-pub at_more : (k : ℕ) (xs out now text : List ℕ) (c : Command) (rest : List ℕ) → Ok (Some (c, rest)) ≡ decoded xs → now ≡ out ++ line k (said c) → out ++ left k xs ≡ text → now ++ left (k + 1) rest ≡ text
-at_more k xs out now text c rest e put whole =
-    ap (λ ys. ys ++ left (k + 1) rest) put
-    ∙ ap (λ j. (out ++ line k (said c)) ++ left j rest) (add-one k)
-    ∙ append_assoc out (line k (said c)) (left (suc k) rest)
-    ∙ ap (λ r. out ++ left_of k r) (sym (reading_more xs c rest (sym e)))
-    ∙ whole
+one_stop : (stop : Option Refusal) → length (stopped stop) ≤ 1
+one_stop None = omega arith
+one_stop (Some e) = omega arith
+
+pub few_lines : (xs : List ℕ) → ((i : ℕ) → Fits w8 (get_or xs i 0)) → length (outcomes xs) ≤ length xs + 1
+few_lines xs typed =
+    let commands = few_commands xs (λ i. Fits-lt-pow (typed i)) in
+    omega (arith, commands, one_stop (reading xs).stop, length-append (map {B = Result Command Refusal} Ok (reading xs).commands) (stopped (reading xs).stop), length-map {B = Result Command Refusal} (reading xs).commands Ok)

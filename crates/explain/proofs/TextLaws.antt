@@ -1,7 +1,9 @@
 -- What the text of a file tells of it. Assumes nothing.
-use Rattle.std.proofs.Common.{◌≡◌, ℕ, suc, ◌+◌, ◌^◌, ◌<◌, true, eqb, List, [], ◌∷◌, ◌++◌, length, Some, None, codes, decimal, Option, sym, refl, ap, ◌∙◌, append_assoc, append-nil, suc-add, zero-add, arith, length-append}
+use Rattle.std.proofs.Common.{◌≡◌, ℕ, suc, ◌+◌, ◌^◌, ◌<◌, true, List, [], ◌∷◌, ◌++◌, length, Some, None, codes, decimal, Option, sym, refl, ap, ◌∙◌, append-nil, suc-add, zero-add, arith, length-append, get_or, w8, Fits}
+use mir.Facts.{Fits-lt-pow}
 use Rattle.std.proofs.lemmas.List.{append_cancel_left}
-use Rattle.std.proofs.lemmas.Bool.{cond_both}
+use Rattle.std.proofs.lemmas.Bool.Decides.{nat_tests}
+use Rattle.std.proofs.lemmas.Grind.{common_steps}
 use Rattle.text.proofs.Pieces.{lacks, lacks_append}
 use Rattle.policy.specs.Refusals.{number_of}
 use Rattle.policy.specs.declared.refusal.Refusal.{Refusal}
@@ -11,7 +13,8 @@ use Rattle.commands.specs.declared.command.Command.{Command}
 use Rattle.commands.specs.declared.command.Command.TheVariants.{Make, Write, Read, Step, Down, Up, List as Lines}
 use Rattle.commands.proofs.ReadingLaws.{Small, AllSmall}
 use Rattle.commands.proofs.WholeFiles.{all_small, few_commands, complete_bytes}
-use Rattle.explain.specs.Texts.{said, bank_said, refused, line, stop_line, lines_from, newlines, one_for, LineEach, Tells}
+use Rattle.commands.specs.Words.{said, bank_said}
+use Rattle.explain.specs.Texts.{refused, line, stop_line, lines_from, newlines, one_for, LineEach, Tells}
 use Rattle.explain.proofs.Plain.{plain_decimal, newlines_plain, first_line}
 use Rattle.explain.proofs.Unsaid.{same_said}
 
@@ -19,9 +22,7 @@ plain_field : (word : List ℕ) (n : ℕ) → lacks 10 word ≡ true → n < 2 ^
 plain_field word n p fits = lacks_append 10 word (decimal n) p (plain_decimal n fits)
 
 plain_bank : (b : ℕ) → b < 2 ^ 64 → lacks 10 (bank_said b) ≡ true
-plain_bank b fits =
-    cond_both (eqb b 0) _ _ (λ xs. lacks 10 xs ≡ true) (λ e. refl)
-    (λ n. cond_both (eqb b 1) _ _ (λ xs. lacks 10 xs ≡ true) (λ e. refl) (λ m. plain_field (codes "make bank ") b refl fits))
+plain_bank b fits = grind (arith, nat_tests, plain_field (codes "make bank ") b refl)
 
 plain_said : (c : Command) → Small c → lacks 10 (said c) ≡ true
 plain_said (Make bank stations count value) small =
@@ -40,7 +41,7 @@ plain_said Lines small = refl
 
 -- a line and what follows it, with the end of the line between them
 parted : (k : ℕ) (words rest : List ℕ) → line k words ++ rest ≡ decimal k ++ (32 ∷ (words ++ (10 ∷ rest)))
-parted k words rest = append_assoc (decimal k) (32 ∷ (words ++ (10 ∷ []))) rest ∙ ap (λ xs. decimal k ++ (32 ∷ xs)) (append_assoc words (10 ∷ []) rest)
+parted k words rest = grind (arith, common_steps)
 
 one_line : (k : ℕ) (words rest : List ℕ) → k < 2 ^ 64 → lacks 10 words ≡ true → newlines (line k words ++ rest) ≡ suc (newlines rest)
 one_line k words rest fits p =
@@ -76,12 +77,14 @@ same_commands k (c ∷ cs) (d ∷ ds) cs_small ds_small e =
     let others = same_commands (suc k) cs ds cs_small.1 ds_small.1 cut.1 in
     cc
 
-pub line_each : (xs : List ℕ) → Bytes xs → length xs + 1 < 2 ^ 64 → LineEach xs
-line_each xs bytes fits =
+pub line_each : (xs : List ℕ) → ((i : ℕ) → Fits w8 (get_or xs i 0)) → length xs + 1 < 2 ^ 64 → LineEach xs
+line_each xs typed fits =
+    let bytes : Bytes xs = λ i. Fits-lt-pow (typed i) in
     all_lines 1 (reading xs).commands (reading xs).stop (omega (arith, few_commands xs bytes)) (all_small xs bytes)
 
-pub tells : (xs : List ℕ) → Bytes xs → Tells xs
-tells xs bytes xs_end ys ys_bytes ys_end e =
+pub tells : (xs : List ℕ) → ((i : ℕ) → Fits w8 (get_or xs i 0)) → Tells xs
+tells xs typed xs_end ys ys_bytes ys_end e =
+    let bytes : Bytes xs = λ i. Fits-lt-pow (typed i) in
     let text_xs = ap (lines_from 1 (reading xs).commands) xs_end in
     let text_ys = ap (lines_from 1 (reading ys).commands) ys_end in
     let same = same_commands 1 (reading ys).commands (reading xs).commands (all_small ys ys_bytes) (all_small xs bytes) (sym text_ys ∙ e ∙ text_xs) in

@@ -3,14 +3,15 @@ use Rattle.std.proofs.Common.{◌≡◌, ℕ, ◌+◌, ◌-◌, ◌*◌, ◌^◌
 use Rattle.std.specs.Char.{is_ascii_digit}
 use Rattle.std.specs.Str.{all_ascii_digits}
 use Rattle.std.proofs.lemmas.Fmt.{decimal_nonempty, digits_decimal, digits_value-decimal}
-use Rattle.std.proofs.lemmas.Bool.{and_parts, cases_eq, cond-true, cond-false, ne_eqb}
+use Rattle.std.proofs.lemmas.Bool.{cases_eq, cond-false, ne_eqb}
+use Rattle.std.proofs.lemmas.Bool.Decides.{nat_tests}
 use Rattle.text.specs.Pieces.{number_after}
 use Rattle.text.proofs.Pieces.{own}
 use Rattle.commands.specs.Commands.{policy}
 use Rattle.commands.specs.declared.command.Command.{Command}
 use Rattle.commands.specs.declared.command.Command.TheVariants.{Make, Write, Read, Step, Down, Up, List as Lines}
 use Rattle.commands.proofs.ReadingLaws.{Small}
-use Rattle.explain.specs.Texts.{said, bank_said}
+use Rattle.commands.specs.Words.{said, bank_said}
 
 -- the numbers in a text, from left to right; before the text stood the digits of a number, if any
 abbrev numbers : Option ℕ → List ℕ → List ℕ
@@ -21,16 +22,11 @@ numbers (Some n) (b ∷ bs) = cond (is_ascii_digit b) (numbers (Some (n * 10 + (
 
 digits_read : (n : ℕ) (ds rest : List ℕ) → all_ascii_digits ds ≡ true → numbers (Some n) (ds ++ rest) ≡ numbers (Some (number_after n ds)) rest
 digits_read n [] rest all = refl
-digits_read n (d ∷ ds) rest all =
-    let parts = and_parts (is_ascii_digit d) (all_ascii_digits ds) all in
-    cond-true (is_ascii_digit d) _ _ parts.0 ∙ digits_read (n * 10 + (d - 48)) ds rest parts.1
+digits_read n (d ∷ ds) rest all = grind (arith, nat_tests, digits_read (n * 10 + (d - 48)) ds rest)
 
 first_digit : (ds rest : List ℕ) → 0 < length ds → all_ascii_digits ds ≡ true → numbers None (ds ++ rest) ≡ numbers (Some (number_after 0 ds)) rest
-first_digit [] rest some all = absurd (omega arith)
-first_digit (d ∷ ds) rest some all =
-    let parts = and_parts (is_ascii_digit d) (all_ascii_digits ds) all in
-    let zero_more : d - 48 ≡ 0 * 10 + (d - 48) = omega arith in
-    cond-true (is_ascii_digit d) _ _ parts.0 ∙ digits_read (d - 48) ds rest parts.1 ∙ ap (λ n. numbers (Some (number_after n ds)) rest) zero_more
+first_digit [] rest some all = grind arith
+first_digit (d ∷ ds) rest some all = grind (arith, nat_tests, digits_read (d - 48) ds rest)
 
 number_read : (n : ℕ) (rest : List ℕ) → n < 2 ^ 64 → numbers None (decimal n ++ rest) ≡ numbers (Some n) rest
 number_read n rest fits =

@@ -1,5 +1,4 @@
 -- What the contracts on the text of a command file cite. Assumes nothing.
---     said c              a command in words
 --     refused e           a refusal in words
 --     line k words        the line with the number k
 --     explained xs        the text of a file with the bytes xs
@@ -11,23 +10,7 @@ use Rattle.policy.specs.Refusals.{number_of}
 use Rattle.policy.specs.declared.refusal.Refusal.{Refusal}
 use Rattle.commands.specs.Readings.{Bytes, Complete, reading}
 use Rattle.commands.specs.declared.command.Command.{Command}
-use Rattle.commands.specs.declared.command.Command.TheVariants.{Make, Write, Read, Step, Down, Up, List as Lines}
-
-abbrev field : List ℕ → ℕ → List ℕ
-field word n = word ++ decimal n
-
--- a make with its bank kind
-abbrev pub bank_said : ℕ → List ℕ
-bank_said b = cond (b == 0) (codes "make board") (cond (b == 1) (codes "make post") (field (codes "make bank ") b))
-
-abbrev pub said : Command → List ℕ
-said (Make bank stations count value) = bank_said bank ++ (field (codes " stations ") stations ++ (field (codes " count ") count ++ field (codes " value ") value.0))
-said (Write station value) = field (codes "write station ") station ++ field (codes " value ") value.0
-said (Read station) = field (codes "read station ") station
-said (Step station) = field (codes "step station ") station
-said (Down writer reader) = field (codes "down writer ") writer ++ field (codes " reader ") reader
-said (Up writer reader) = field (codes "up writer ") writer ++ field (codes " reader ") reader
-said Lines = codes "list"
+use Rattle.commands.specs.Words.{field, said}
 
 -- of the refusals, only 9 and 10 come while a file is read, and they carry no place
 abbrev pub refused : Refusal → List ℕ

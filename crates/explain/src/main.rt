@@ -4,17 +4,14 @@
 mod texts;
 
 use crate::texts::explain;
-use std::io::{Read, Write};
-
-// The most bytes that are read.
-const LIMIT: usize = 65536;
+use commands::input::{LIMIT, read_file};
+use std::io::Write;
 
 fn main(rt: HostRuntime) -> anyhow::Result<()> {
     let heap = rt.alloc();
-    let mut input = Vec::new(heap);
-    rt.stdin().take(65536).read_to_end(&mut input)?;
+    let input = read_file(heap, rt.stdin())?;
     let text = explain(heap, &input)?;
-    rt.stdout().write_all(&text)?;
+    rt.stdout().write_all(text.as_bytes())?;
     if input.len() == LIMIT {
         eprintln!(rt; "explain: {LIMIT} bytes were read; what follows them was not")?;
     }

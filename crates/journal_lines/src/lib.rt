@@ -36,28 +36,19 @@ impl<'a, L: Copy> Journal<'a, L> {
     pub fn line(&self, number: u64) -> Option<L>
         ensures { result ≡ slice_get self.now.lines.now (number - 1) }
     {
-        copy_at(&*self.lines, number.saturating_sub(1) as usize)
+        self.lines.get(number.saturating_sub(1) as usize).copied()
     }
 
     // Replaces the line with that number; nothing changes where there is none.
+    // That the slice is still the one that was lent speaks of before and after, so it is a clause of each call that writes, and no invariant.
     pub fn put(&mut self, number: u64, line: L)
         ensures after { self.new.lines.now ≡ slice_set self.old.lines.now (number - 1) line }
         ensures lender { self.new.lines.ghost_name ≡ self.old.lines.ghost_name }
     {
+        // an index, since a proof knows no element of a slice after its `get_mut`
         let at = number.saturating_sub(1) as usize;
         if at < self.lines.len() {
             self.lines[at] = line;
         }
-    }
-}
-
-// What stands at a place, from 0.
-fn copy_at<L: Copy>(lines: &[L], at: usize) -> Option<L>
-    ensures { result ≡ slice_get lines.now at }
-{
-    if at < lines.len() {
-        Some(lines[at])
-    } else {
-        None
     }
 }

@@ -1,5 +1,3 @@
-pub mod Layers
 pub mod Permuting
 pub mod Renumberings
 pub mod Splits
-pub mod Stations

@@ -1,27 +1,49 @@
 -- Lemmas on renumbered banks. Assumes nothing.
-use Rattle.std.proofs.Common.{◌≡◌, ℕ, ◌≤◌, Bool, true, false, cond, leb, List, Some, None, Option, Result, sym, refl, ap, ◌∙◌}
-use Rattle.banks.proofs.Shared.{same_meaning}
-use Rattle.std.specs.Option.{option_map}
-use Rattle.std.proofs.lemmas.Bool.{leb-true, true≢false}
+use Rattle.std.proofs.Common.{◌≡◌, ℕ, ◌≤◌, Bool, true, false, cond, eqb, leb, Result, sym, refl, ap, ◌∙◌, arith, rules}
+use Rattle.std.proofs.lemmas.Grind.{common_steps}
+use Rattle.std.proofs.lemmas.Bool.{leb-true}
+use Rattle.banks.proofs.Shared.{Left, same_meaning}
 use Rattle.policy.specs.declared.refusal.Refusal.{Refusal}
-use Rattle.banks.specs.Meanings.{Meaning, inside, filled, read}
-use Rattle.layers.specs.Changes.{changed, under}
-use Rattle.layers.specs.Layers.{deepen, deepened, renumbered, sunk}
+use Rattle.banks.specs.Meanings.{inside, Meaning, read, start, started, mark, marked}
+use Rattle.layers.specs.Layers.{deepened, renumbered}
 use Rattle.layers.specs.Numberings.{number_at, position_at}
 use Rattle.layers.specs.Renumberings.{fitting}
-use Rattle.layers.specs.Permutations.{look}
-use Rattle.layers.specs.declared.change.Change.{Change}
-use Rattle.layers.specs.declared.change.Change.TheVariants.{Start, Finish, Mark}
 use Rattle.layers.specs.declared.permutation.Permutation.{Permutation}
-use Rattle.layers.proofs.Layers.{Renumbers, read_laid, changed_laid, filled_laid}
-use Rattle.layers.proofs.Permuting.{renumbers}
-use Rattle.layers.proofs.Stations.{changed_stations}
+use Rattle.layers.proofs.Permuting.{Renumbers, renumbers}
+
+-- two numbers above are the same where those below are
+eqb_same : {n : ℕ} {p q : ℕ → ℕ} → Renumbers n p q → (v w : ℕ) → eqb (p v) (p w) ≡ eqb v w
+eqb_same s v w = grind (arith, common_steps, s.back v, s.back w)
+
+-- a bank that means b, under the numbers p, with q back: each call above, by the call below
+module _ {R : Type 0} {p q : ℕ → ℕ} (b : Meaning R) (s : Renumbers b.stations p q) where
+  abbrev above : Meaning R
+  above = renumbered p q b
+
+  -- what comes up from the bank below
+  abbrev up : {X : Type 0} → Result X Refusal × Meaning R → Result X Refusal × Meaning R
+  up z = (deepened z.0, renumbered p q z.1)
+
+  read_above : (c : Bool) (w r : ℕ) → read above c w r ≡ up (read b c (p w) (p r))
+  read_above c w r = let k = s.stays w in let l = s.stays r in let f = s.forth r in search rules
+
+  started_above : (w r : ℕ) (x : R) → started above w r x ≡ renumbered p q (started b (p w) (p r) x)
+  started_above w r x = same_meaning _ _ refl (λ v k. refl) (λ v. grind (arith, common_steps, s.back v, s.back w, s.back r)) (λ v k. refl) (λ v k. refl)
+
+  start_above : (w r : ℕ) (x : R) → start above w r x ≡ up (start b (p w) (p r) x)
+  start_above w r x = let k = s.stays w in let l = s.stays r in let f = started_above w r x in search rules
+
+  marked_above : (w r : ℕ) (k : Bool) → marked above w r k ≡ renumbered p q (marked b (p w) (p r) k)
+  marked_above w r k = search (rules, eqb_same s)
+
+  mark_above : (w r : ℕ) (k : Bool) → mark above w r k ≡ up (mark b (p w) (p r) k)
+  mark_above w r k = let i = s.stays w in let l = s.stays r in let f = marked_above w r k in search rules
 
 -- the numbers of a permutation, and its positions, for a bank of n stations
-abbrev pub number_for : Permutation → ℕ → ℕ → ℕ
+abbrev number_for : Permutation → ℕ → ℕ → ℕ
 number_for p n = fitting p.size n (number_at p)
 
-abbrev pub position_for : Permutation → ℕ → ℕ → ℕ
+abbrev position_for : Permutation → ℕ → ℕ → ℕ
 position_for p n = fitting p.size n (position_at p)
 
 -- a permutation and its way back renumber every bank
@@ -33,78 +55,42 @@ permutation_renumbers p n = go (leb p.size n) (leb-true p.size n)
     go true few = renumbers n p.size p.numbers p.positions (few refl) p.there p.back
     go false few = record { back = λ x. refl; forth = λ x. refl; stays = λ x. refl }
 
--- the number below of a station, and what holds of it
-pub numbered : (p : Permutation) (n x : ℕ) {v : ℕ} → v ≡ number_for p n x → (position_for p n v ≡ x) × (inside n v ≡ inside n x)
-numbered p n x e = let s = permutation_renumbers p n in (ap (position_for p n) e ∙ s.back x, ap (inside n) e ∙ s.stays x)
+-- what the attributes in src name
+pub number_inside : (p : Permutation) (n x : ℕ) → inside n (number_for p n x) ≡ inside n x
+number_inside p n x = (permutation_renumbers p n).stays x
 
--- a change under other numbers, and back
-under_back : {R : Type 0} {n : ℕ} {p q : ℕ → ℕ} → Renumbers n p q → (c : Change R) → under p (under q c) ≡ c
-under_back s (Start w r x) = ap (λ v. Start v _ x) (s.forth w) ∙ ap (λ k. Start w k x) (s.forth r)
-under_back s (Finish w) = ap Finish (s.forth w)
-under_back s (Mark w r k) = ap (λ v. Mark v _ k) (s.forth w) ∙ ap (λ i. Mark w i k) (s.forth r)
+pub number_of_position : (p : Permutation) (n x : ℕ) → number_for p n (position_for p n x) ≡ x
+number_of_position p n x = (permutation_renumbers p n).forth x
 
--- what a bank answers and leaves, z, as the layer over it shows it
-abbrev Shown : {R X : Type 0} → Permutation → Result X Refusal × Meaning R → Result X Refusal × Meaning R
-Shown p z = (deepened z.0, renumbered (number_for p z.1.stations) (position_for p z.1.stations) z.1)
+pub same_number : (p : Permutation) (n v w : ℕ) → eqb (number_for p n v) (number_for p n w) ≡ eqb v w
+same_number p n = eqb_same (permutation_renumbers p n)
 
-pub shown : {R X : Type 0} (p : Permutation) {a : Result X Refusal} {y z : Result X Refusal × Meaning R} → a ≡ deepened y.0 → y ≡ z
-    → ◌≡◌ {A = Result X Refusal × Meaning R} (a, renumbered (number_for p y.1.stations) (position_for p y.1.stations) y.1) (Shown p z)
-shown p {a} {y} {z} e f = ap (λ b. (b, (Shown p y).1)) e ∙ ap (Shown p) f
+-- a bank, seen through a permutation
+abbrev seen : {R : Type 0} → Permutation → Meaning R → Meaning R
+seen p m = renumbered (number_for p m.stations) (position_for p m.stations) m
 
--- a bank that means m, through a permutation
+-- A bank that means m, seen through p. A call g is made below at i, which is the number there for the layer's call: y is
+-- what the bank answers and leaves, a that answer one layer deeper, and f what the layer answers and leaves.
 module _ {R : Type 0} (p : Permutation) (m : Meaning R) where
   abbrev there : ℕ → ℕ
   there = number_for p m.stations
 
-  abbrev here : ℕ → ℕ
-  here = position_for p m.stations
+  s : Renumbers m.stations there (position_for p m.stations)
+  s = permutation_renumbers p m.stations
 
-  abbrev above : Meaning R
-  above = renumbered there here m
+  called : {X I : Type 0} (g : I → Result X Refusal × Meaning R) {i j : I} {f : Result X Refusal × Meaning R} → (g j).1.stations ≡ m.stations → f ≡ up m s (g j)
+      → i ≡ j → {a : Result X Refusal} {y : Result X Refusal × Meaning R} → a ≡ deepened y.0 → y ≡ g i → ◌≡◌ {A = Result X Refusal × Meaning R} (a, seen p y.1) f
+  called g {i} {j} same law at {a} {y} deep e =
+      ap (λ b. (b, seen p y.1)) deep
+      ∙ ap (λ z. (deepened z.0, seen p z.1)) (e ∙ ap g at)
+      ∙ ap (λ n. (deepened (g j).0, renumbered (number_for p n) (position_for p n) (g j).1)) same
+      ∙ sym law
 
-  through : {X : Type 0} (z f : Result X Refusal × Meaning R) → z.1.stations ≡ m.stations → f ≡ (deepened z.0, renumbered there here z.1) → Shown p z ≡ f
-  through z f same law = ap (λ n. (deepened z.0, renumbered (number_for p n) (position_for p n) z.1)) same ∙ sym law
+  pub read_through : (k : ℕ → ℕ → Bool) (w r : ℕ) {i : ℕ × ℕ} → i ≡ (there w, there r) → {a : Result R Refusal} {y : Result R Refusal × Meaning R} → a ≡ deepened y.0 → y ≡ read m (k i.0 i.1) i.0 i.1 → (a, seen p y.1) ≡ read (seen p m) (k (there w) (there r)) w r
+  read_through k w r = called (λ (i : ℕ × ℕ). read m (k i.0 i.1) i.0 i.1) refl (read_above m s (k (there w) (there r)) w r)
 
-  pub read_through : (k : Bool) (w r : ℕ) → Shown p (read m k w r) ≡ read above k (here w) (here r)
-  read_through k w r =
-      let s = permutation_renumbers p m.stations in
-      through (read m k w r) (read above k (here w) (here r)) refl
-      (read_laid (λ v. true) there here m m s k (here w) (here r) refl
-      ∙ ap (λ v. (deepened (read m k v (there (here r))).0, above)) (s.forth w) ∙ ap (λ i. (deepened (read m k w i).0, above)) (s.forth r))
+  pub start_through : (w r : ℕ) (x : R) {i : ℕ × ℕ} → i ≡ (there w, there r) → {a : Result (Unit {0}) Refusal} {y : Left (Meaning R)} → a ≡ deepened y.0 → y ≡ start m i.0 i.1 x → (a, seen p y.1) ≡ start (seen p m) w r x
+  start_through w r x = called (λ (i : ℕ × ℕ). start m i.0 i.1 x) (search rules) (start_above m s w r x)
 
-  pub change_through : (c : Change R) → Shown p (changed c m) ≡ changed (under here c) above
-  change_through c =
-      let s = permutation_renumbers p m.stations in
-      through (changed c m) (changed (under here c) above) (changed_stations c m)
-      (changed_laid (λ v. true) there here m m s (under here c) refl ∙ ap (λ k. (deepened (changed k m).0, renumbered there here (changed k m).1)) (under_back s c))
-
-  pub fill_through : (x : R) → renumbered there here (filled m x) ≡ filled above x
-  fill_through x = sym (filled_laid (λ v. true) there here m m (permutation_renumbers p m.stations) x (λ w e. absurd (true≢false e)))
-
--- there and back is the bank below, but for the depth
-there_and_back : {R : Type 0} (m : Meaning R) (p q : ℕ → ℕ) → Renumbers m.stations p q → renumbered q p (renumbered p q m) ≡ sunk (sunk m)
-there_and_back {R} m p q s =
-    same_meaning (renumbered q p (renumbered p q m)) (sunk (sunk m)) refl
-    (λ w r. at m.settled w r) (λ w. ap (λ i. twice (m.opened i)) (s.forth w) ∙ once (m.opened w)) (λ w r. at m.reachable w r) (λ w r. ap (λ z. deepen (deepen z)) (at m.place w r))
-  where
-    at : {X : Type 0} (f : ℕ → ℕ → X) (w r : ℕ) → f (p (q w)) (p (q r)) ≡ f w r
-    at f w r = ap (λ i. f i (p (q r))) (s.forth w) ∙ ap (f w) (s.forth r)
-
-    twice : Option (ℕ × R) → Option (ℕ × R)
-    twice o = option_map (λ (o : ℕ × R). (p o.0, o.1)) (option_map (λ (o : ℕ × R). (q o.0, o.1)) o)
-
-    once : (o : Option (ℕ × R)) → twice o ≡ o
-    once None = refl
-    once (Some o) = ap (λ i. Some (i, o.1)) (s.forth o.0)
-
--- what has the positions of p as its numbers, and p's numbers as its positions, undoes p
-pub undoes : {R : Type 0} (p i : Permutation) → i.size ≡ p.size → i.numbers ≡ p.positions → i.positions ≡ p.numbers → (m : Meaning R)
-    → renumbered (number_for i m.stations) (position_for i m.stations) (renumbered (number_for p m.stations) (position_for p m.stations) m) ≡ sunk (sunk m)
-undoes {R} p i same there back m =
-    ap (λ k. over k i.numbers i.positions) same
-    ∙ ap (λ xs. over p.size xs i.positions) there
-    ∙ ap (over p.size p.positions) back
-    ∙ there_and_back m (number_for p m.stations) (position_for p m.stations) (permutation_renumbers p m.stations)
-  where
-    over : ℕ → List ℕ → List ℕ → Meaning R
-    over k xs ys = renumbered (fitting k m.stations (look k xs)) (fitting k m.stations (look k ys)) (renumbered (number_for p m.stations) (position_for p m.stations) m)
+  pub mark_through : (w r : ℕ) (k : Bool) {i : ℕ × ℕ} → i ≡ (there w, there r) → {a : Result (Unit {0}) Refusal} {y : Left (Meaning R)} → a ≡ deepened y.0 → y ≡ mark m i.0 i.1 k → (a, seen p y.1) ≡ mark (seen p m) w r k
+  mark_through w r k = called (λ (i : ℕ × ℕ). mark m i.0 i.1 k) (search rules) (mark_above m s w r k)

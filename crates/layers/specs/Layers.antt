@@ -9,32 +9,15 @@
 use Rattle.std.specs.Prelude.{ℕ, ◌+◌, min, Bool, cond, not, ◌||◌, Ok, Err, Result, ◌==◌, nat_le}
 use Rattle.std.specs.Option.{option_map}
 use Rattle.policy.specs.declared.refusal.Refusal.{Refusal}
-use Rattle.policy.specs.declared.refusal.Refusal.TheVariants.{StationCount, StartingCount, TableSize, UnknownStation, CountsDiffer, NotRenumbering, SplitPoint, JournalSize, UnknownByte, CutShort, Busy, JournalFull, Idle, Spent, Unreachable, RecordOpen, NothingOpen, NoRegister, AlreadyMade}
+use Rattle.policy.specs.declared.refusal.Refusal.TheVariants.{Unreachable}
 use Rattle.banks.specs.Meanings.{Meaning, Place}
 
 abbrev pub deepen : Place → Place
 deepen p = (min (p.0 + 1) 255, p.1, p.2)
 
 abbrev pub deeper : Refusal → Refusal
-deeper StationCount = StationCount
-deeper StartingCount = StartingCount
-deeper TableSize = TableSize
-deeper UnknownStation = UnknownStation
-deeper CountsDiffer = CountsDiffer
-deeper NotRenumbering = NotRenumbering
-deeper SplitPoint = SplitPoint
-deeper JournalSize = JournalSize
-deeper UnknownByte = UnknownByte
-deeper CutShort = CutShort
-deeper Busy = Busy
-deeper JournalFull = JournalFull
-deeper Idle = Idle
-deeper Spent = Spent
 deeper (Unreachable p) = Unreachable (deepen p)
-deeper RecordOpen = RecordOpen
-deeper NothingOpen = NothingOpen
-deeper NoRegister = NoRegister
-deeper AlreadyMade = AlreadyMade
+deeper e = e
 
 abbrev pub deepened : {X : Type 0} → Result X Refusal → Result X Refusal
 deepened (Ok x) = Ok x

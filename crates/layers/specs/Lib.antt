@@ -1,4 +1,3 @@
-pub mod Changes
 pub mod Layers
 pub mod Numberings
 pub mod Permutations

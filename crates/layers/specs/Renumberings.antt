@@ -1,6 +1,7 @@
 -- What a renumbering layer means, and what making one answers. Assumes nothing.
 --     fitting k n p                   the numbers p of k stations, for a bank of n: its own numbers, should k be above n
 --     number_below, position_above    the number below of a station above, and back
+--     station_below f s x             the number below of station x, over a bank that means what f says
 --     renumbering_meaning f s         the meaning of the layer s over a bank that means what f says
 --     renumbering_seen a              what making a layer answered: the bank, the size and the numbers
 --     renumbering_made n b xs         over a bank b of n stations, by the list xs: refused by 6
@@ -23,6 +24,9 @@ module _ {B : Type 0} where
 
   abbrev pub position_above : Renumbering B → ℕ → ℕ → ℕ
   position_above s n = fitting s.map.size n (position_at s.map)
+
+  abbrev pub station_below : {R : Type 0} → (B → Meaning R) → Renumbering B → ℕ → ℕ
+  station_below f s = number_below s (f s.below).stations
 
   abbrev pub renumbering_meaning : {R : Type 0} → (B → Meaning R) → Renumbering B → Meaning R
   renumbering_meaning f s = renumbered (number_below s (f s.below).stations) (position_above s (f s.below).stations) (f s.below)

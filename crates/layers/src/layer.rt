@@ -25,15 +25,12 @@ fn deepen_refusal(refusal: Refusal) -> Refusal
 pub fn deepen_answer<X>(answer: Result<X, Refusal>) -> Result<X, Refusal>
     ensures { result ≡ deepened answer }
 {
-    match answer {
-        Ok(x) => Ok(x),
-        Err(refusal) => Err(deepen_refusal(refusal)),
-    }
+    answer.map_err(deepen_refusal)
 }
 
 // The place that a bank below answers, one layer deeper.
 pub fn deepen_located(answer: Result<Place, Refusal>) -> Result<Place, Refusal>
     ensures { result ≡ raised answer }
 {
-    Ok(deepen_place(answer?))
+    answer.map(deepen_place)
 }

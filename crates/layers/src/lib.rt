@@ -1,7 +1,6 @@
 // Layers over banks, each a bank again: renumbering and split.
 #![tactic(auto)]
 
-mod change;
 mod layer;
 mod permutation;
 pub mod renumbering;

@@ -4,7 +4,7 @@ ghost use Rattle.layers.specs.Permutations.{Pairs};
 
 mod calls;
 
-// The number at every position, and the position of every number, each from 1 to a size of at most 16.
+// The number at every position, and the position of every number, each from 1 to a size of at most 16. Arrays, as a layer allocates nothing.
 #[derive(Clone, Copy)]
 pub struct Permutation {
     size: u8,

@@ -1,6 +1,7 @@
 -- Every step keeps what is kept. Assumes nothing.
 use Rattle.std.proofs.Common.{◌≡◌, ℕ, ◌+◌, ◌-◌, ◌*◌, ◌/◌, ◌%◌, ◌<◌, Bool, true, eqb, ltb, leb, length, Some, Ok, Option, sym, refl, ◌∙◌, subst, arith}
-use Rattle.std.proofs.lemmas.Bool.{cond_both, cond-false, and_from, le-leb, ltb-true, ltb-false, eqb-true, eqb-false, ne_eqb}
+use Rattle.std.proofs.lemmas.Bool.Decides.{nat_tests}
+use Rattle.std.proofs.lemmas.Bool.{cond_both, and_from, ltb-true, ltb-false, eqb-true, eqb-false}
 use Rattle.banks.specs.declared.record.Record.{Record}
 use Rattle.banks.specs.Meanings.{Meaning, inside, known, read, start, finish, started, finished}
 use Rattle.stamps.specs.Makes.{Make, Laws}
@@ -16,7 +17,7 @@ use Rattle.machine.proofs.Entries.{Entry, Held, cells_of, point_of, rec, Kept}
 use Rattle.machine.proofs.Finishing.{finish_move, last_move, open_here, spreads_once}
 use Rattle.machine.proofs.Rows.{Here, fits, closed_again}
 use Rattle.machine.proofs.Spreading.{Past, start_move, stamped_since, spread_on, reader}
-use Rattle.machine.proofs.Stepping.{After, unreachable, going_op, op_is, now, same_row, no_row, collect_kept}
+use Rattle.machine.proofs.Stepping.{After, unreachable, op_is, now, same_row, no_row, collect_kept}
 use Rattle.machine.proofs.Telling.{line_set, line_stays, moved_told}
 
 module _ {S V : Type 0} {m : Make S} (laws : Laws m) {M : Machine S V} {b : Book S V} {old : Machine S V} (kept : Kept m old M b) {i s c : ℕ} (h : Here m (point_of M kept.ent) i s c) where
@@ -30,7 +31,7 @@ module _ {S V : Type 0} {m : Make S} (laws : Laws m) {M : Machine S V} {b : Book
   l = account e.op e.stamp e.value
 
   known_cell : (w r : ℕ) → inside n w ≡ true → inside n r ≡ true → known M.bank.stations w r ≡ true
-  known_cell w r p q = subst (λ k. known k w r ≡ true) (sym kept.told.bank) (and_from (inside n w) (inside n r) p q)
+  known_cell w r p q = grind (arith, nat_tests, kept.told.bank)
 
   reading : (choice : Bool) → c < n → After kept s (collect m M s i c l (read M.bank choice (c + 1) s).0 M.bank)
   reading choice early =
@@ -39,7 +40,7 @@ module _ {S V : Type 0} {m : Make S} (laws : Laws m) {M : Machine S V} {b : Book
       (unreachable kept s)
     where
       inside_c : inside n (c + 1) ≡ true
-      inside_c = and_from _ _ (le-leb 1 (c + 1) (omega arith)) (le-leb (c + 1) n (omega arith))
+      inside_c = grind (arith, nat_tests)
 
       cell : (x : Record S V) × (M.bank.settled (c + 1) s ≡ Some x)
       cell = kept.inv.full (c + 1) s (and_from (inside n (c + 1)) (inside n s) inside_c h.known)
@@ -49,13 +50,11 @@ module _ {S V : Type 0} {m : Make S} (laws : Laws m) {M : Machine S V} {b : Book
     noted : (en : ℕ → Operation S V → Option (ℕ × End S V)) → with_step (b.operation (b.latest s)) (stamped_by n (b.moment + 1) (b.operation (b.latest s))) (en (b.moment + 1) (b.operation (b.latest s))) ≡ with_step e.op e.op.stamped (en (M.moment + 1) e.op)
     noted en =
         let g = (fits h).taken in
-        let p = late.past in
-        going_op _ e.op n _ _ e.op.stamped en (op_is kept h) (now kept h) (cond-false (eqb (e.op.steps + 1) n) _ _ (ne_eqb _ _ (omega arith)))
+        grind (arith, nat_tests, g, op_is kept h, now kept h)
 
     starting : (c - n) % 2 ≡ 0 → After kept s (spread M s i c (start M.bank s (reader late) (rec e)).0 (start M.bank s (reader late) (rec e)).1)
     starting even =
         let g = (fits h).taken in
-        let p = late.past in
         let q = (stamped_since late).3 in
         let lt : (c - n) / 2 < n = omega arith in
         start_cases M.bank s (reader late) (rec e) (known_cell s _ h.known ((spreads_once n s).known _ lt)) ((fits h).middle ∙ closed_again n s e (omega arith) (omega arith)) (λ a. After kept s (spread M s i c a.0 a.1))
@@ -83,7 +82,7 @@ module _ {S V : Type 0} {m : Make S} (laws : Laws m) {M : Machine S V} {b : Book
 
 module _ {S V : Type 0} {m : Make S} (laws : Laws m) {M : Machine S V} {b : Book S V} {old : Machine S V} (kept : Kept m old M b) (s : ℕ) where
   by_row : (choice : Bool) (r : Row) → row_of M.rows s ≡ r → inside M.stations s ≡ true → After kept s (step_row m M choice s r)
-  by_row choice Idle q k = ((λ q. let z : ⊥ = omega arith in absurd z, λ q. omega arith, λ q. omega arith), kept)
+  by_row choice Idle q k = ((λ q. absurd (omega arith), λ q. omega arith, λ q. omega arith), kept)
   by_row choice (Busy i c) q k = subst (λ o. After kept s (step_line m M choice s i c o)) (sym (kept.told.lines i (fits h).low (fits h).high)) (staged laws kept h choice)
     where
       h : Here m (point_of M kept.ent) i s c
@@ -93,4 +92,4 @@ module _ {S V : Type 0} {m : Make S} (laws : Laws m) {M : Machine S V} {b : Book
   step_kept choice =
       cond_both (leb M.size (length M.lines)) _ _ (After kept s)
       (λ _. cond_both (inside M.stations s) _ _ (After kept s) (λ k. by_row choice (row_of M.rows s) refl k) (λ k. ((λ _. k, λ q. omega arith, λ q. omega arith), kept)))
-      (λ _. ((λ q. let z : ⊥ = omega arith in absurd z, λ q. omega arith, λ q. omega arith), kept))
+      (λ _. ((λ q. absurd (omega arith), λ q. omega arith, λ q. omega arith), kept))

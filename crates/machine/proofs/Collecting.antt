@@ -2,17 +2,17 @@
 --     met_stamp, met_value    what the line holds after it met the record x
 --     Met                     the operation in the row of s, still collecting, and a record x that its next cell's row holds
 --     Collects                what is left to show of such a step
-use Rattle.std.proofs.Common.{◌≡◌, ℕ, ◌+◌, ◌<◌, ◌≤◌, Bool, true, false, cond, Some, None, Option, unwrap_or, sym, refl, ap, ◌∙◌, subst, inl, ⊎_elim, arith}
-use Rattle.std.proofs.lemmas.Bool.{cond_both, cases_lt}
+use Rattle.std.proofs.Common.{◌≡◌, ℕ, ◌+◌, ◌<◌, ◌≤◌, Bool, true, false, cond, Some, None, Option, unwrap_or, sym, refl, ap, ◌∙◌, subst, inl, inr, ⊎_elim, arith}
+use Rattle.std.proofs.lemmas.Bool.{cases_lt}
 use Rattle.banks.specs.declared.record.Record.{Record}
 use Rattle.stamps.specs.Makes.{Make, Laws}
-use Rattle.machine.specs.Histories.{End, as_done, as_spent, with_step}
+use Rattle.machine.specs.Histories.{End, as_done, as_spent}
 use Rattle.machine.specs.Steps.{value_of}
 use Rattle.machine.specs.declared.line.Kind.TheVariants.{Write, Read}
 use Rattle.machine.specs.declared.row.Row.{Row}
-use Rattle.machine.proofs.Basics.{none_some, kinds}
+use Rattle.machine.proofs.Basics.{kinds}
 use Rattle.machine.proofs.Entries.{Entry, Point, Held, AtMost, DoneAt, Phase, collecting, spreading, finished, refused, Backed, RowFits}
-use Rattle.machine.proofs.Moves.{next_point, Move}
+use Rattle.machine.proofs.Moves.{stepped_to, next_point, Move}
 use Rattle.machine.proofs.Orders.{at_most_refl, smaller_at_most, at_most_smaller, at_most_trans}
 use Rattle.machine.proofs.Rows.{Here, fits}
 
@@ -23,14 +23,9 @@ module _ {S V : Type 0} where
   abbrev pub met_value : Make S → Entry S V → Record S V → V
   met_value m e x = cond (m.smaller e.stamp x.tag) (value_of e.op.kind e.value x.value) e.value
 
-  -- an entry with one more step
-  abbrev pub stepped_to : Entry S V → Option ℕ → Option (ℕ × End S V) → S → V → Entry S V
-  stepped_to e stamped ended s v = record { op = with_step e.op stamped ended; stamp = s; value = v }
-
   -- a write keeps its value
   pub write_keeps : (m : Make S) (e : Entry S V) (x : Record S V) → e.op.kind ≡ Write → met_value m e x ≡ e.value
-  write_keeps m e x h =
-      cond_both (m.smaller e.stamp x.tag) _ e.value (λ v. v ≡ e.value) (λ _. ap (λ k. value_of k e.value x.value) h) (λ _. refl)
+  write_keeps m e x h = grind arith
 
 pub record Met {S V : Type 0} (m : Make S) (σ : Point S V) (i s steps : ℕ) (x : Record S V) : Type 0 where
   pub here : Here m σ i s steps
@@ -50,42 +45,40 @@ module _ {S V : Type 0} {m : Make S} (laws : Laws m) {σ : Point S V} {i s steps
   taken = (fits h).taken
 
   pub unstamped : (ent i).op.stamped ≡ None
-  unstamped = go (h.inv.sound i (fits h).high).phase
-    where
-      go : Phase n moment e → e.op.stamped ≡ None
-      go (collecting a b k) = b
-      go (spreading t a b k low f) = let g = taken in let early = met.early in let z : ⊥ = omega arith in absurd z
-      go (finished t u a b k l f) = absurd (none_some _ _ (fits h).going a)
-      go (refused u a b k l f) = b
+  unstamped =
+      elim (h.inv.sound i (fits h).high).phase [
+        | collecting a b k ↦ b
+        | spreading t a b k low f ↦ absurd (omega (arith, taken))
+        | finished t u a b k l f ↦ cc (fits h).going
+        | refused u a b k l f ↦ b
+      ]
 
   above_old : AtMost m e.stamp (met_stamp m e x)
-  above_old = cond_both (m.smaller e.stamp x.tag) x.tag e.stamp (AtMost m e.stamp) (smaller_at_most m laws e.stamp x.tag) (λ _. at_most_refl m laws e.stamp)
+  above_old = grind (arith, smaller_at_most m laws e.stamp x.tag, at_most_refl m laws e.stamp)
 
   above_met : AtMost m x.tag (met_stamp m e x)
-  above_met = cond_both (m.smaller e.stamp x.tag) x.tag e.stamp (AtMost m x.tag) (λ _. at_most_refl m laws x.tag) (λ p. p)
+  above_met = grind (arith, at_most_refl m laws x.tag)
 
   -- entry 0 has no cell
   not_zeroth : (a : ℕ) → (ent a).op.station ≡ steps + 1 → 1 ≤ a
-  not_zeroth a st = ⊎_elim zero (λ ge. ge) (cases_lt a 1)
-    where
-      zero : a < 1 → 1 ≤ a
-      zero lt =
-          let is : a ≡ 0 = omega arith in
-          let none : (ent a).op.station ≡ 0 = ap (λ k. (ent k).op.station) is ∙ ap (λ (f : Entry S V). f.op.station) h.inv.zeroth in
-          omega arith
+  not_zeroth a st =
+      elim (cases_lt a 1) [
+        | inl lt ↦
+            let is : a ≡ 0 = omega arith in
+            let none : (ent a).op.station ≡ 0 = ap (λ k. (ent k).op.station) is ∙ ap (λ (f : Entry S V). f.op.station) h.inv.zeroth in
+            omega arith
+        | inr ge ↦ ge
+      ]
 
   -- what was done before is not above what the line now has
   above_done : (a u : ℕ) → a ≤ count → DoneAt (ent a) u → u < e.op.opened → (ent a).op.station ≤ e.op.steps + 1 → AtMost m (ent a).stamp (met_stamp m e x)
-  above_done a u la d lt le = ⊎_elim before now (cases_lt (ent a).op.station (e.op.steps + 1))
-    where
-      before : (ent a).op.station < e.op.steps + 1 → AtMost m (ent a).stamp (met_stamp m e x)
-      before l = at_most_trans m laws _ _ _ (h.inv.later a i la (fits h).high u d lt (omega arith)).at_most above_old
-
-      now : e.op.steps + 1 ≤ (ent a).op.station → AtMost m (ent a).stamp (met_stamp m e x)
-      now ge =
-          let g = taken in
-          let st : (ent a).op.station ≡ steps + 1 = omega arith in
-          at_most_trans m laws _ _ _ (h.inv.above a u (not_zeroth a st) la d x (subst (λ w. Held n cells w x) (sym st) met.held)) above_met
+  above_done a u la d lt le =
+      elim (cases_lt (ent a).op.station (e.op.steps + 1)) [
+        | inl before ↦ at_most_trans m laws _ _ _ (h.inv.later a i la (fits h).high u d lt (omega arith)).at_most above_old
+        | inr now ↦
+            let st : (ent a).op.station ≡ steps + 1 = omega (arith, taken) in
+            at_most_trans m laws _ _ _ (h.inv.above a u (not_zeroth a st) la d x (subst (λ w. Held n cells w x) (sym st) met.held)) above_met
+      ]
 
   -- what a read holds is backed
   pub backed_met : e.op.kind ≡ Read → Backed σ (moment + 1) (met_stamp m e x) (met_value m e x)
@@ -98,7 +91,7 @@ module _ {S V : Type 0} {m : Make S} (laws : Laws m) {σ : Point S V} {i s steps
   own_met : (v : V) → e.op.given ≡ Some v → met_value m e x ≡ v
   own_met v g =
       let sound = h.inv.sound i (fits h).high in
-      ⊎_elim (λ w. write_keeps m e x w ∙ sound.own v g) (λ r. absurd (none_some _ v (sound.reading r) g)) (kinds e.op.kind)
+      ⊎_elim (λ w. write_keeps m e x w ∙ sound.own v g) (λ r. cc (sound.reading r)) (kinds e.op.kind)
 
   -- the entry after the step, of which stamping, end and stamp are still open
   abbrev pub collected_to : Option ℕ → Option (ℕ × End S V) → S → Entry S V
@@ -115,10 +108,9 @@ module _ {S V : Type 0} {m : Make S} (laws : Laws m) {σ : Point S V} {i s steps
   pub collect_move : (st : Option ℕ) (en : Option (ℕ × End S V)) (z : S) (r : Row) → Collects st en z r → Move m σ cells i s (collected_to st en z) r
   collect_move st en z r k =
       record {
-        grows = record { kind = refl; station = refl; opened = refl; frozen = λ t f. absurd (none_some _ t unstamped f) };
+        grows = record { kind = refl; station = refl; opened = refl; frozen = λ t f. cc unstamped };
         sound =
             let old = h.inv.sound i (fits h).high in
-            let o = old.opened in
             record { number = old.number; low = old.low; high = old.high; opened = omega arith; phase = k.phase; own = own_met; reading = old.reading; owned = λ t w f. (k.write t w f).0 };
         ends = λ u g q. (k.ends u g q).0;
         later = λ a u la ne d lt le. record { at_most = at_most_trans m laws _ _ _ (above_done a u la d lt le) k.up; greater = λ t w f. at_most_smaller m laws _ _ _ (above_done a u la d lt le) (k.write t w f).1 };
@@ -127,5 +119,5 @@ module _ {S V : Type 0} {m : Make S} (laws : Laws m) {σ : Point S V} {i s steps
         others = λ w ne. (refl, λ q. refl);
         full = h.inv.full;
         row = k.row;
-        done = λ u d y q. let p : as_done z (met_value m e x) ≡ as_spent = (k.ends u _ d).1 in let z' : ◌≡◌ {A = ℕ} 0 1 = cc in let bad : ⊥ = omega arith in absurd bad;
+        done = λ u d y q. let p : as_done z (met_value m e x) ≡ as_spent = (k.ends u _ d).1 in cc;
       }

@@ -1,6 +1,7 @@
 -- From the invariant to the law. Assumes nothing.
 use Rattle.std.proofs.Common.{◌≡◌, ℕ, ◌+◌, ◌*◌, ◌<◌, ◌≤◌, true, false, ◌↔◌, List, Some, None, Option, unwrap_or, sym, refl, ap, ◌∙◌, subst, ⊎_elim, arith}
 use Rattle.std.specs.List.{AllByRecursion}
+use Rattle.std.proofs.lemmas.Option.{same_Some}
 use Rattle.std.proofs.lemmas.Bool.{cases_order}
 use Rattle.stamps.specs.Makes.{Make, Laws}
 use Rattle.machine.specs.Machines.{Machine}
@@ -9,13 +10,10 @@ use Rattle.machine.specs.Histories.{End, as_done, as_spent, Book}
 use Rattle.machine.specs.Rules.{History, Stamped, stamped, RestsBy, Rests, Accounted, Clean, Law}
 use Rattle.machine.specs.declared.line.Kind.{Kind}
 use Rattle.machine.specs.declared.line.Kind.TheVariants.{Write, Read}
-use Rattle.machine.proofs.Basics.{none_some, some_in, some_pair}
+use Rattle.machine.proofs.Basics.{some_pair}
 use Rattle.machine.proofs.Entries.{Entry, DoneAt, Phase, collecting, spreading, finished, refused, Sound, Above, Kept}
 use Rattle.machine.proofs.Orders.{smaller_not_same}
 use Rattle.machine.proofs.Seen as at
-
-done_not_spent : {S V : Type 0} (s : S) (v : V) → as_done s v ≡ as_spent → ⊥
-done_not_spent s v e = let z : ◌≡◌ {A = ℕ} 0 1 = cc in omega arith
 
 -- what the phase of an entry says of its steps and its end
 module _ {S V : Type 0} {n moment : ℕ} {e : Entry S V} where
@@ -26,21 +24,21 @@ module _ {S V : Type 0} {n moment : ℕ} {e : Entry S V} where
   within (refused u a b c d f) = omega arith
 
   done_at : (t : ℕ) (s : S) (v : V) → e.op.ended ≡ Some (t, as_done s v) → Phase n moment e → (e.op.steps ≡ 3 * n) × (s ≡ e.stamp) × (v ≡ e.value)
-  done_at t s v q (collecting a b c) = absurd (none_some _ _ a q)
-  done_at t s v q (spreading u a b c d f) = absurd (none_some _ _ a q)
-  done_at t s v q (finished u w a b c d f) = let p : as_done s v ≡ as_done e.stamp e.value = (some_pair _ _ _ _ (sym q ∙ a)).1 in (f, cc, cc)
-  done_at t s v q (refused u a b c d f) = absurd (done_not_spent s v (some_pair _ _ _ _ (sym q ∙ a)).1)
+  done_at t s v q (collecting a b c) = cc
+  done_at t s v q (spreading u a b c d f) = cc
+  done_at t s v q (finished u w a b c d f) = let p = (some_pair _ _ _ _ (sym q ∙ a)).1 in (f, cc, cc)
+  done_at t s v q (refused u a b c d f) = cc (some_pair _ _ _ _ (sym q ∙ a)).1
 
   at_done : 1 ≤ n → e.op.steps ≡ 3 * n → Phase n moment e → (t : ℕ) × DoneAt e t
-  at_done some q (collecting a b c) = let z : ⊥ = omega arith in absurd z
-  at_done some q (spreading u a b c d f) = let z : ⊥ = omega arith in absurd z
+  at_done some q (collecting a b c) = absurd (omega arith)
+  at_done some q (spreading u a b c d f) = absurd (omega arith)
   at_done some q (finished u w a b c d f) = (w, a)
-  at_done some q (refused u a b c d f) = let z : ⊥ = omega arith in absurd z
+  at_done some q (refused u a b c d f) = absurd (omega arith)
 
   spent_at : (t : ℕ) → e.op.ended ≡ Some (t, as_spent) → Phase n moment e → (e.op.kind ≡ Write) × (e.op.steps ≡ n) × (e.op.stamped ≡ None)
-  spent_at t q (collecting a b c) = absurd (none_some _ _ a q)
-  spent_at t q (spreading u a b c d f) = absurd (none_some _ _ a q)
-  spent_at t q (finished u w a b c d f) = absurd (done_not_spent _ _ (some_pair _ _ _ _ (sym a ∙ q)).1)
+  spent_at t q (collecting a b c) = cc
+  spent_at t q (spreading u a b c d f) = cc
+  spent_at t q (finished u w a b c d f) = cc (some_pair _ _ _ _ (sym a ∙ q)).1
   spent_at t q (refused u a b c d f) = (f, d, b)
 
 module _ {S V : Type 0} (m : Make S) (laws : Laws m) (M : Machine S V) (b : Book S V) (notes : List (Note S V)) {old : Machine S V} (kept : Kept m old M b) where
@@ -86,10 +84,10 @@ module _ {S V : Type 0} (m : Make S) (laws : Laws m) (M : Machine S V) (b : Book
       sw = at.shown m M b notes kept w r.1 r.3
 
       same : r.0 ≡ x
-      same = some_in _ _ (sym r.2 ∙ e)
+      same = same_Some _ _ (sym r.2 ∙ e)
 
       by : (k : Kind) → r.0.kind ≡ k → r.1.stamp ≡ r.0.stamp
-      by Write k = let aw : a ≡ w = subst (λ q. RestsBy q a w r.0 r.1) k r.5 in ap (λ (z : Stamped S V). z.stamp) (some_in _ _ (sym r.3 ∙ ap (stamped h) (sym aw) ∙ r.2))
+      by Write k = let aw : a ≡ w = subst (λ q. RestsBy q a w r.0 r.1) k r.5 in let is : r.1 ≡ r.0 = cc (r.2, r.3) in cc
       by Read k = (subst (λ q. RestsBy q a w r.0 r.1) k r.5).1
 
   rests : (a : ℕ) (x : Stamped S V) → stamped h a ≡ Some x → (w : ℕ) × Rests h a w
@@ -123,8 +121,7 @@ module _ {S V : Type 0} (m : Make S) (laws : Laws m) (M : Machine S V) (b : Book
       let sc = at.shown m M b notes kept c y ec in
       let over = at.ended_in (ent a).op.ended t (ap (λ (z : Stamped S V). z.ended) sa.is ∙ d) in
       let above = after a c sa.at t over.0 sa.low sc.low sa.stamped over.1 (subst (λ o. t < o) (sym (ap (λ (z : Stamped S V). z.opened) sc.is)) lt) sc.at sc.stamped in
-      subst (λ (x' : Stamped S V). (m.smaller y.stamp x'.stamp ≡ false) × (y.kind ≡ Write → m.smaller x'.stamp y.stamp ≡ true)) sa.is
-      (subst (λ (y' : Stamped S V). (m.smaller y'.stamp (ent a).stamp ≡ false) × (y'.kind ≡ Write → m.smaller (ent a).stamp y'.stamp ≡ true)) sc.is (above.at_most, λ k. above.greater sc.at k sc.stamped))
+      grind (arith, sa.is, sc.is, sc.stamped, above.at_most, above.greater sc.at)
 
   account : (k : ℕ) → 1 ≤ k → k ≤ M.used → Accounted M.stations M.lines k (ent k).op
   account k lo hi =
@@ -153,7 +150,7 @@ module _ {S V : Type 0} (m : Make S) (laws : Laws m) (M : Machine S V) (b : Book
         write_greater = λ a c x y t ea ec d lt. (later a c x y t ea ec d lt).1;
         moments = kept.told.moments;
         in_use = kept.told.counts;
-        accounts = λ k lo hi. let c = kept.told.counts in let le : k ≤ M.used = omega arith in subst (Accounted M.stations M.lines k) (sym (kept.told.operations k lo le)) (account k lo le);
+        accounts = λ k lo hi. let le : k ≤ M.used = omega arith in subst (Accounted M.stations M.lines k) (sym (kept.told.operations k lo le)) (account k lo le);
         clean = clean;
         rest = kept.told.rest;
       }

@@ -6,9 +6,9 @@ use Rattle.stamps.specs.Makes.{Make}
 use Rattle.machine.specs.declared.line.Kind.TheVariants.{Read}
 use Rattle.machine.specs.declared.row.Row.{Row}
 use Rattle.machine.specs.declared.row.Row.TheVariants.{Idle, Busy}
-use Rattle.machine.proofs.Basics.{none_some, valueOr_on, split, at_other}
+use Rattle.machine.proofs.Basics.{valueOr_on, split, at_other}
 use Rattle.machine.proofs.Entries.{Entry, Cells, Point, Held, AtMost, DoneAt, Sound, Backed, Ended, Order, Later, BusyFits, RowFits, Inv}
-use Rattle.machine.proofs.Moves.{Grows, next_point, Move, unchanged, backed_in, sound_on}
+use Rattle.machine.proofs.Moves.{ended_on, Grows, next_point, Move, unchanged, backed_in, sound_on}
 use Rattle.machine.proofs.Rows.{Here, fits}
 
 module _ {S V : Type 0} {m : Make S} {σ : Point S V} {d : Cells (Record S V)} {i s steps : ℕ} {e : Entry S V} {r : Row} (h : Here m σ i s steps) (move : Move m σ d i s e r) where
@@ -24,18 +24,18 @@ module _ {S V : Type 0} {m : Make S} {σ : Point S V} {d : Cells (Record S V)} {
   moved_order : (a b : ℕ) → a ≤ count → b ≤ count → Order a (τ.ent a) b (τ.ent b)
   moved_order a b la lb =
       each (λ a' d'. Order a' d' b (τ.ent b)) a la
-      (λ li. each (λ b' e'. Order i e b' e') b lb (λ _ lt _. let z : ⊥ = omega arith in absurd z) (λ _ lb' lt st. still_open b lb' lt st))
+      (λ li. each (λ b' e'. Order i e b' e') b lb (λ _ lt _. absurd (omega arith)) (λ _ lb' lt st. still_open b lb' lt st))
       (λ _ la'. each (λ b' e'. Order a (ent a) b' e') b lb (λ li lt st. subst (λ t. Ended t (ent a)) (sym move.grows.opened) (h.inv.order a i la' li lt (st ∙ move.grows.station))) (λ _ lb'. h.inv.order a b la' lb'))
     where
       still_open : (b : ℕ) → b ≤ count → Order i e b (ent b)
-      still_open b lb lt st = let o = h.inv.order i b (fits h).high lb lt (sym move.grows.station ∙ st) in absurd (none_some _ _ (fits h).going o.ended)
+      still_open b lb lt st = let o = h.inv.order i b (fits h).high lb lt (sym move.grows.station ∙ st) in cc ((fits h).going, o.ended)
 
   -- an operation that ends now was not over before any other was opened
   not_yet : (f : Entry S V) (u : ℕ) → f.op.opened ≤ moment → DoneAt e u → u < f.op.opened → ⊥
-  not_yet f u le q lt = let now = move.ends u _ q in omega arith
+  not_yet f u le q lt = omega (arith, move.ends u _ q)
 
   opened_e : e.op.opened ≤ moment
-  opened_e = subst (λ t. t ≤ moment) (sym move.grows.opened) (h.inv.sound i (fits h).high).opened
+  opened_e = omega (arith, (h.inv.sound i (fits h).high).opened)
 
   moved_later : (a b : ℕ) → a ≤ count → b ≤ count → Later m a (τ.ent a) b (τ.ent b)
   moved_later a b la lb =
@@ -65,7 +65,7 @@ module _ {S V : Type 0} {m : Make S} {σ : Point S V} {d : Cells (Record S V)} {
   -- the row of another station
   row_stays : (w : ℕ) (q : Row) → w ≢ s → RowFits σ w q → RowFits τ w q
   row_stays w Idle ne f =
-      ((move.others w ne).0 ∙ f.0, λ k lk. each (λ _ g. g.op.station ≡ w → Ended (moment + 1 + 1) g) k lk (λ _ q. absurd (ne (sym q ∙ move.grows.station ∙ (fits h).station))) (λ _ lk' q. let g = f.1 k lk' q in let b = g.before in record { at = g.at; how = g.how; ended = g.ended; before = omega arith }))
+      ((move.others w ne).0 ∙ f.0, λ k lk. each (λ _ g. g.op.station ≡ w → Ended (moment + 1 + 1) g) k lk (λ _ q. absurd (ne (sym q ∙ move.grows.station ∙ (fits h).station))) (λ _ lk' q. ended_on _ (omega arith) (f.1 k lk' q)))
   row_stays w (Busy j t) ne f =
       subst (BusyFits τ w j t) (sym (at_other ent i e j (λ q. ne (sym f.station ∙ ap (λ k. (ent k).op.station) q ∙ (fits h).station))))
       (record { low = f.low; high = f.high; station = f.station; going = f.going; taken = f.taken; middle = (move.others w ne).0 ∙ f.middle; spread = λ j' q. (move.others w ne).1 _ ∙ f.spread j' q })

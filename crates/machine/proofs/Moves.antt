@@ -1,14 +1,14 @@
 -- A step of one operation keeps the invariant, once a few facts are shown of it. Assumes nothing.
 --     Move                what is to show of a step: entry i becomes e, the cells c become d, the row of s becomes r
 --     moved               then the invariant holds again
-use Rattle.std.proofs.Common.{◌≡◌, ℕ, ◌+◌, ◌<◌, ◌≤◌, true, ◌≢◌, ◌⊎◌, Some, unwrap_or, sym, refl, ◌∙◌, subst, le_refl, arith}
+use Rattle.std.proofs.Common.{◌≡◌, ℕ, ◌+◌, ◌<◌, ◌≤◌, true, ◌≢◌, ◌⊎◌, Some, Option, unwrap_or, sym, refl, ◌∙◌, subst, le_refl, arith}
 use Rattle.banks.specs.declared.record.Record.{Record}
 use Rattle.banks.specs.Meanings.{known, at_row}
 use Rattle.stamps.specs.Makes.{Make}
-use Rattle.machine.specs.Histories.{End}
+use Rattle.machine.specs.Histories.{End, with_step}
 use Rattle.machine.specs.declared.line.Kind.TheVariants.{Read}
 use Rattle.machine.specs.declared.row.Row.{Row}
-use Rattle.machine.proofs.Entries.{Entry, Cells, Point, Held, AtMost, DoneAt, Phase, collecting, spreading, finished, refused, Sound, Backed, Above, RowFits}
+use Rattle.machine.proofs.Entries.{Entry, Cells, Point, Held, AtMost, DoneAt, Phase, collecting, spreading, finished, refused, Sound, Backed, Ended, Above, RowFits}
 
 module _ {S V : Type 0} where
   -- what an open fixes stays, and a stamped entry keeps its stamp and value
@@ -50,13 +50,15 @@ module _ {S V : Type 0} where
     pub row : RowFits (next_point σ d i s e r) s r
     pub done : (u : ℕ) → DoneAt e u → (x : Record S V) → Held σ.stations d s x → AtMost m e.stamp x.tag
 
+  -- an entry with one more step
+  abbrev pub stepped_to : Entry S V → Option ℕ → Option (ℕ × End S V) → S → V → Entry S V
+  stepped_to e stamped ended s v = record { op = with_step e.op stamped ended; stamp = s; value = v }
+
   -- what backs a record goes on backing it, if its entry does not lose its stamp
   pub backed_in : (σ τ : Point S V) (t u : ℕ) (s : S) (v : V) → σ.count ≤ τ.count → ((k : ℕ) → k ≤ σ.count → Grows (σ.ent k) (τ.ent k)) → t ≤ u → Backed σ t s v → Backed τ u s v
   backed_in σ τ t u s v more grows le b =
       let g = grows b.by b.low in
       let fr = g.frozen b.at b.stamped in
-      let low = b.low in
-      let h = b.before in
       record {
         by = b.by;
         low = omega arith;
@@ -75,6 +77,9 @@ module _ {S V : Type 0} where
   pub backed_on : {σ : Point S V} {t : ℕ} {s : S} {v : V} (u : ℕ) → t ≤ u → Backed σ t s v → Backed σ u s v
   backed_on {σ} u le b = backed_in σ σ _ u _ _ (le_refl _) (λ k _. unchanged _ _ refl) le b
 
+  pub ended_on : {t : ℕ} {e : Entry S V} (u : ℕ) → t ≤ u → Ended t e → Ended u e
+  ended_on u le d = record { at = d.at; how = d.how; ended = d.ended; before = omega arith }
+
   pub phase_on : {n moment : ℕ} {e : Entry S V} → Phase n moment e → Phase n (moment + 1) e
   phase_on (collecting a b c) = collecting a b c
   phase_on (spreading t a b c d f) = spreading t a b (omega arith) d f
@@ -87,7 +92,7 @@ module _ {S V : Type 0} where
         number = h.number;
         low = h.low;
         high = h.high;
-        opened = let o = h.opened in omega arith;
+        opened = omega arith;
         phase = phase_on h.phase;
         own = h.own;
         reading = h.reading;

@@ -1,7 +1,8 @@
 -- An open keeps what is kept, as the machine and the book tell it. Assumes nothing.
-use Rattle.std.proofs.Common.{◌≡◌, ℕ, ◌+◌, ◌-◌, ◌<◌, ◌≤◌, true, ltb, leb, length, set, Some, None, Ok, Option, Result, sym, refl, ap, ◌∙◌, subst, arith}
+use Rattle.std.proofs.Common.{◌≡◌, ℕ, ◌+◌, ◌-◌, ◌<◌, ◌≤◌, true, ltb, leb, length, set, Some, None, Ok, Option, Result, refl, ap, ◌∙◌, arith}
 use Rattle.std.specs.List.{slice_get}
 use Rattle.std.proofs.lemmas.List.{length-set}
+use Rattle.std.proofs.lemmas.Bool.Decides.{nat_tests}
 use Rattle.std.proofs.lemmas.Bool.{cond_both, ltb-true}
 use Rattle.policy.specs.declared.refusal.Refusal.{Refusal}
 use Rattle.banks.specs.Meanings.{inside, at_row}
@@ -13,7 +14,7 @@ use Rattle.machine.specs.declared.line.Kind.{Kind}
 use Rattle.machine.specs.declared.line.Kind.TheVariants.{Read}
 use Rattle.machine.specs.declared.row.Row.{Row}
 use Rattle.machine.specs.declared.row.Row.TheVariants.{Idle, Busy}
-use Rattle.machine.proofs.Basics.{split, at_same, at_other, nth_set_same, nth_set_other}
+use Rattle.machine.proofs.Basics.{nth_set_same, nth_set_other}
 use Rattle.machine.proofs.Entries.{Entry, point_of, Kept}
 use Rattle.machine.proofs.Opening as one
 use Rattle.machine.proofs.Telling.{set_row, same_rows}
@@ -37,26 +38,15 @@ module _ {S V : Type 0} {m : Make S} (laws : Laws m) {M : Machine S V} {b : Book
 
     operations : (k : ℕ) → 1 ≤ k → k ≤ i → at_row b.operation (b.count + 1) noted k ≡ (at_row kept.ent i e k).op
     operations k lo hi =
-        subst (λ j. at_row b.operation (j + 1) noted k ≡ (at_row kept.ent i e k).op) kept.told.counts
-        (split b.operation i noted (λ k' q. k' ≡ k → q ≡ (at_row kept.ent i e k).op) k (λ ik. same ∙ ap (λ (f : Entry S V). f.op) (sym (subst (λ j. at_row kept.ent i e j ≡ e) ik (at_same kept.ent i e)))) (λ ne _. kept.told.operations k lo (omega arith) ∙ ap (λ (f : Entry S V). f.op) (sym (at_other kept.ent i e k ne))) refl)
-      where
-        same : noted ≡ e.op
-        same = ap (λ t. record { line = i; kind = kind; station = s; given = given; opened = t + 1; steps = 0; stamped = None; ended = None }) (sym kept.told.moments)
+        grind (arith, nat_tests, kept.told.counts, kept.told.moments, kept.told.operations k lo)
 
     lines : (k : ℕ) → 1 ≤ k → k ≤ i → slice_get (set M.lines M.used (fresh M s kind v)) (k - 1) ≡ Some (account (at_row kept.ent i e k).op (at_row kept.ent i e k).stamp (at_row kept.ent i e k).value)
     lines k lo hi =
-        split kept.ent i e (λ k' f. 1 ≤ k' → k' ≤ i → slice_get (set M.lines M.used (fresh M s kind v)) (k' - 1) ≡ Some (account f.op f.stamp f.value)) k
-        (λ _ _. let z = kept.told.size in subst (λ j. slice_get (set M.lines M.used (fresh M s kind v)) j ≡ Some (fresh M s kind v)) (omega arith) (nth_set_same M.lines M.used (fresh M s kind v) (omega arith)))
-        (λ ne lo' hi'. nth_set_other M.lines M.used (k - 1) (fresh M s kind v) (omega arith) ∙ kept.told.lines k lo' (omega arith)) lo hi
+        grind (arith, nat_tests, kept.told.size, nth_set_same M.lines M.used (fresh M s kind v), nth_set_other M.lines M.used (k - 1) (fresh M s kind v), kept.told.lines k lo)
 
     latest : (w j t : ℕ) → inside M.stations w ≡ true → row_of (set M.rows (s - 1) (Busy i 0)) w ≡ Busy j t → at_row b.latest s (b.count + 1) w ≡ j
     latest w j t k eq =
-        split (row_of M.rows) s (Busy i 0) (λ v' q. v' ≡ w → q ≡ Busy j t → at_row b.latest s (b.count + 1) w ≡ j) w
-        (λ sw rj. subst (λ x. at_row b.latest s (b.count + 1) x ≡ j) sw (at_same b.latest s (b.count + 1) ∙ ap (λ x. x + 1) (sym kept.told.counts) ∙ line_is rj))
-        (λ ne _ rj. at_other b.latest s (b.count + 1) w ne ∙ kept.told.latest w j t k rj) refl (sym (rows w k) ∙ eq)
-      where
-        line_is : Busy i 0 ≡ Busy j t → i ≡ j
-        line_is q = cc
+        grind (arith, nat_tests, kept.told.counts, rows w k, kept.told.latest w j t k)
 
     opened : After (Ok i, next_machine M M.bank (set M.lines M.used (fresh M s kind v)) i s (Busy i 0))
     opened =
@@ -74,7 +64,7 @@ module _ {S V : Type 0} {m : Make S} (laws : Laws m) {M : Machine S V} {b : Book
                 moments = ap (λ t. t + 1) kept.told.moments;
                 counts = ap (λ t. t + 1) kept.told.counts;
                 room = omega arith;
-                size = let z = kept.told.size in omega (arith, length-set M.lines M.used (fresh M s kind v));
+                size = omega (arith, length-set M.lines M.used (fresh M s kind v));
                 rows = length-set M.rows (s - 1) (Busy i 0) ∙ kept.told.rows;
                 operations = operations;
                 lines = lines;

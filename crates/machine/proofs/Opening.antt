@@ -1,6 +1,6 @@
 -- A new operation keeps the invariant. Assumes nothing.
 --     Opens               an idle station, and what its open is handed
-use Rattle.std.proofs.Common.{◌≡◌, ℕ, ◌+◌, ◌≤◌, true, ◌≢◌, Some, None, Option, unwrap_or, sym, refl, ap, ◌∙◌, subst, ⊎_elim, le_refl, arith}
+use Rattle.std.proofs.Common.{◌≡◌, ℕ, ◌+◌, ◌≤◌, true, ◌≢◌, Some, None, Option, unwrap_or, sym, refl, ap, ◌∙◌, subst, inl, inr, le_refl, arith}
 use Rattle.std.proofs.lemmas.Bool.{cases_lt}
 use Rattle.banks.specs.declared.record.Record.{Record}
 use Rattle.banks.specs.Meanings.{inside, at_row}
@@ -9,9 +9,10 @@ use Rattle.machine.specs.declared.line.Kind.{Kind}
 use Rattle.machine.specs.declared.line.Kind.TheVariants.{Read}
 use Rattle.machine.specs.declared.row.Row.{Row}
 use Rattle.machine.specs.declared.row.Row.TheVariants.{Idle, Busy}
-use Rattle.machine.proofs.Basics.{none_some, valueOr_on, inside_parts, split, at_same, at_other}
+use Rattle.banks.proofs.Shared.{inside_bounds}
+use Rattle.machine.proofs.Basics.{valueOr_on, split, at_same, at_other}
 use Rattle.machine.proofs.Entries.{Entry, Point, Held, AtMost, start_entry, DoneAt, collecting, Sound, Backed, Ended, Order, Later, BusyFits, RowFits, Inv}
-use Rattle.machine.proofs.Moves.{unchanged, backed_in, sound_on}
+use Rattle.machine.proofs.Moves.{ended_on, unchanged, backed_in, sound_on}
 use Rattle.machine.proofs.Orders.{at_most_refl}
 use Rattle.machine.proofs.Rows.{nothing_open}
 
@@ -79,24 +80,23 @@ module _ {S V : Type 0} {m : Make S} (laws : Laws m) {σ : Point S V} {s : ℕ} 
 
   order : (a b : ℕ) → a ≤ count + 1 → b ≤ count + 1 → Order a (τ.ent a) b (τ.ent b)
   order a b la lb =
-      each (λ a' d. Order a' d b (τ.ent b)) a la (λ lt. let z : ⊥ = omega arith in absurd z)
+      each (λ a' d. Order a' d b (τ.ent b)) a la (λ lt. absurd (omega arith))
       (λ la'. each (λ b' e. Order a (ent a) b' e) b lb (λ _ st. before.1 a la' st) (λ lb'. h.inv.order a b la' lb'))
 
   later : (a b : ℕ) → a ≤ count + 1 → b ≤ count + 1 → Later m a (τ.ent a) b (τ.ent b)
   later a b la lb =
-      each (λ a' d. Later m a' d b (τ.ent b)) a la (λ u d. absurd (none_some _ _ refl d))
-      (λ la'. each (λ b' e. Later m a (ent a) b' e) b lb (λ u d lt st. record { at_most = from_start a la' st; greater = λ t _ f. absurd (none_some _ _ refl f) }) (λ lb'. h.inv.later a b la' lb'))
+      each (λ a' d. Later m a' d b (τ.ent b)) a la (λ u d. cc)
+      (λ la'. each (λ b' e. Later m a (ent a) b' e) b lb (λ u d lt st. record { at_most = from_start a la' st; greater = λ t _ f. cc }) (λ lb'. h.inv.later a b la' lb'))
     where
       from_start : (a : ℕ) → a ≤ count → (ent a).op.station ≤ 0 → AtMost m (ent a).stamp origin.tag
       from_start a la st =
-          let z : a ≡ 0 = ⊎_elim (λ lt. omega arith) (λ ge. let low = (h.inv.sound a la).low ge in omega arith) (cases_lt a 1) in
+          let z : a ≡ 0 = elim (cases_lt a 1) [ inl lt ↦ omega arith | inr ge ↦ omega (arith, (h.inv.sound a la).low ge) ] in
           subst (λ x. AtMost m x origin.tag) (sym (ap (λ k. (ent k).stamp) z ∙ ap (λ (f : Entry S V). f.stamp) h.inv.zeroth)) (at_most_refl m laws origin.tag)
 
   row_stays : (w : ℕ) (q : Row) → w ≢ s → RowFits σ w q → RowFits τ w q
   row_stays w Idle ne f =
-      (f.0, λ k lk. each (λ k' g. g.op.station ≡ w → Ended (moment + 1 + 1) g) k lk (λ q. absurd (ne (sym q))) (λ lk' q. let g = f.1 k lk' q in let b = g.before in record { at = g.at; how = g.how; ended = g.ended; before = omega arith }))
+      (f.0, λ k lk. each (λ k' g. g.op.station ≡ w → Ended (moment + 1 + 1) g) k lk (λ q. absurd (ne (sym q))) (λ lk' q. ended_on _ (omega arith) (f.1 k lk' q)))
   row_stays w (Busy j t) ne f =
-      let hi = f.high in
       subst (BusyFits τ w j t) (sym (at_other ent (count + 1) new j (omega arith)))
       (record { low = f.low; high = omega arith; station = f.station; going = f.going; taken = f.taken; middle = f.middle; spread = f.spread })
 
@@ -110,20 +110,20 @@ module _ {S V : Type 0} {m : Make S} (laws : Laws m) {σ : Point S V} {s : ℕ} 
         going = refl;
         taken = refl;
         middle = before.0 ∙ sym (nothing_open n s new (omega arith));
-        spread = λ j le. let z : ⊥ = omega arith in absurd z;
+        spread = λ j le. absurd (omega arith);
       })
 
   pub opened : Inv m opened_point
   opened =
-      let p = inside_parts n s h.known in
+      let p = inside_bounds n s h.known in
       record {
         zeroth = zeroth;
-        sound = λ k lk. each (Sound m n (moment + 1)) k lk (record { number = refl; low = λ _. p.0; high = p.1; opened = le_refl _; phase = collecting refl refl (let so = h.some in omega arith); own = h.own; reading = h.no_given; owned = λ t _ f. absurd (none_some _ _ refl f) }) (λ lk'. sound_on (h.inv.sound k lk'));
+        sound = λ k lk. each (Sound m n (moment + 1)) k lk (record { number = refl; low = λ _. p.0; high = p.1; opened = le_refl _; phase = collecting refl refl (omega arith); own = h.own; reading = h.no_given; owned = λ t _ f. cc }) (λ lk'. sound_on (h.inv.sound k lk'));
         order = order;
         later = later;
         reads = λ k lk. each (λ k' f. f.op.kind ≡ Read → Backed τ (unwrap_or f.op.stamped (moment + 1 + 1)) f.stamp f.value) k lk by_start (λ lk' q. on _ _ _ _ (valueOr_on (ent k).op.stamped moment) (h.inv.reads k lk' q));
         kept = λ w x q. on _ _ _ _ (omega arith) (h.inv.kept w x q);
-        above = λ a u low la. each (λ a' f. 1 ≤ a' → DoneAt f u → (x : Record S V) → Held n cells f.op.station x → AtMost m f.stamp x.tag) a la (λ _ d. absurd (none_some _ _ refl d)) (λ la' low'. h.inv.above a u low' la') low;
+        above = λ a u low la. each (λ a' f. 1 ≤ a' → DoneAt f u → (x : Record S V) → Held n cells f.op.station x → AtMost m f.stamp x.tag) a la (λ _ d. cc) (λ la' low'. h.inv.above a u low' la') low;
         rows = λ w. split row s (Busy (count + 1) 0) (λ w' q. inside n w' ≡ true → RowFits τ w' q) w (λ _. new_row) (λ ne kw. row_stays w (row w) ne (h.inv.rows w kw));
         full = h.inv.full;
       }

@@ -1,20 +1,18 @@
 -- A step past the collecting moves its operation: what all such steps share, and the start of a cell. Assumes nothing.
 --     Past                the operation in the row of s, past its collecting
 --     Spreads             what is left to show of such a step
-use Rattle.std.proofs.Common.{◌≡◌, ℕ, ◌+◌, ◌-◌, ◌*◌, ◌/◌, ◌%◌, ◌<◌, ◌≤◌, true, ◌≢◌, ◌⊎◌, Some, Option, unwrap_or, sym, refl, ap, ◌∙◌, subst, inl, inr, ⊎_elim, arith}
+use Rattle.std.proofs.Common.{◌≡◌, ℕ, ◌+◌, ◌-◌, ◌*◌, ◌/◌, ◌%◌, ◌<◌, ◌≤◌, true, ◌≢◌, ◌⊎◌, Some, Option, unwrap_or, sym, refl, ap, ◌∙◌, subst, inl, inr, arith}
 use Rattle.std.proofs.lemmas.Bool.{cases_order}
 use Rattle.banks.specs.declared.record.Record.{Record}
 use Rattle.banks.specs.Meanings.{at_row, known}
 use Rattle.stamps.specs.Makes.{Make}
 use Rattle.machine.specs.Histories.{End}
 use Rattle.machine.specs.Steps.{spread_to}
-use Rattle.machine.specs.declared.line.Kind.TheVariants.{Write, Read}
 use Rattle.machine.specs.declared.row.Row.{Row}
 use Rattle.machine.specs.declared.row.Row.TheVariants.{Busy}
-use Rattle.machine.proofs.Basics.{none_some, some_pair, valueOr_on, kinds, split, at_same, at_other}
-use Rattle.machine.proofs.Collecting.{stepped_to}
+use Rattle.machine.proofs.Basics.{some_pair, valueOr_on, kinds, split, at_same, at_other}
 use Rattle.machine.proofs.Entries.{Entry, Cells, Point, Held, as_settled, as_open, AtMost, rec, DoneAt, Phase, collecting, spreading, finished, refused, Backed, RowFits}
-use Rattle.machine.proofs.Moves.{Put, next_point, Move, backed_on}
+use Rattle.machine.proofs.Moves.{Put, stepped_to, next_point, Move, backed_on}
 use Rattle.machine.proofs.Rows.{Here, fits, something_open, busy_row}
 
 pub record Past {S V : Type 0} (m : Make S) (σ : Point S V) (i s steps : ℕ) : Type 0 where
@@ -34,46 +32,34 @@ module _ {S V : Type 0} {m : Make S} {σ : Point S V} {i s steps : ℕ} (late : 
   taken = (fits h).taken
 
   pub stamped_since : (t : ℕ) × ((ent i).op.stamped ≡ Some t) × (t ≤ moment) × (steps < 3 * n)
-  stamped_since = go (h.inv.sound i (fits h).high).phase
-    where
-      go : Phase n moment e → (t : ℕ) × (e.op.stamped ≡ Some t) × (t ≤ moment) × (steps < 3 * n)
-      go (collecting a b k) = let g = taken in let p = late.past in let bad : ⊥ = omega arith in absurd bad
-      go (spreading t a b k l f) = (t, b, k, let g = taken in omega arith)
-      go (finished t u a b k l f) = absurd (none_some _ _ (fits h).going a)
-      go (refused u a b k l f) = absurd (none_some _ _ (fits h).going a)
+  stamped_since =
+      elim (h.inv.sound i (fits h).high).phase [
+        | collecting a b k ↦ absurd (omega (arith, taken))
+        | spreading t a b k l f ↦ (t, b, k, omega (arith, taken))
+        | finished t u a b k l f ↦ cc (fits h).going
+        | refused u a b k l f ↦ cc (fits h).going
+      ]
 
   -- the operation's own record is backed, by itself or by what backs its read
   own_backed : Backed σ (moment + 1) e.stamp e.value
-  own_backed = ⊎_elim write read (kinds e.op.kind)
-    where
-      since : (t : ℕ) × (e.op.stamped ≡ Some t) × (t ≤ moment) × (steps < 3 * n)
-      since = stamped_since
-
-      write : e.op.kind ≡ Write → Backed σ (moment + 1) e.stamp e.value
-      write k = record { by = i; low = (fits h).high; write = k; at = since.0; stamped = since.1; before = let q = since.2 in omega arith; stamp = refl; value = refl }
-
-      read : e.op.kind ≡ Read → Backed σ (moment + 1) e.stamp e.value
-      read k = backed_on (moment + 1) (let q = since.2 in omega arith) (subst (λ t. Backed σ (unwrap_or t (moment + 1)) e.stamp e.value) since.1 (h.inv.reads i (fits h).high k))
+  own_backed =
+      let since = stamped_since in
+      elim (kinds e.op.kind) [
+        | inl k ↦ record { by = i; low = (fits h).high; write = k; at = since.0; stamped = since.1; before = omega arith; stamp = refl; value = refl }
+        | inr k ↦ backed_on (moment + 1) (omega arith) (subst (λ t. Backed σ (unwrap_or t (moment + 1)) e.stamp e.value) since.1 (h.inv.reads i (fits h).high k))
+      ]
 
   -- and not below what its station did before
   above_own : (a u : ℕ) → a ≤ count → DoneAt (ent a) u → (ent a).op.station ≡ s → AtMost m (ent a).stamp e.stamp
-  above_own a u la d st = ⊎_elim same (⊎_elim earlier later) (cases_order a i)
-    where
-      same : a ≡ i → AtMost m (ent a).stamp e.stamp
-      same q = absurd (none_some _ _ (fits h).going (subst (λ k. DoneAt (ent k) u) q d))
-
-      earlier : a < i → AtMost m (ent a).stamp e.stamp
-      earlier lt =
-          let o = h.inv.order a i la (fits h).high lt (st ∙ sym (fits h).station) in
-          let u_is = (some_pair _ _ _ _ (sym d ∙ o.ended)).0 in
-          let b = o.before in
-          let g = taken in
-          let p = late.past in
-          let high = (h.inv.sound a la).high in
-          (h.inv.later a i la (fits h).high u d (omega arith) (omega arith)).at_most
-
-      later : i < a → AtMost m (ent a).stamp e.stamp
-      later gt = let o = h.inv.order i a (fits h).high la gt ((fits h).station ∙ sym st) in absurd (none_some _ _ (fits h).going o.ended)
+  above_own a u la d st =
+      elim (cases_order a i) [
+        | inl q ↦ cc ((fits h).going, subst (λ k. DoneAt (ent k) u) q d)
+        | inr (inl lt) ↦
+            let o = h.inv.order a i la (fits h).high lt (st ∙ sym (fits h).station) in
+            let u_is = (some_pair _ _ _ _ (sym d ∙ o.ended)).0 in
+            (h.inv.later a i la (fits h).high u d (omega arith) (omega (arith, taken, (h.inv.sound a la).high))).at_most
+        | inr (inr gt) ↦ cc ((fits h).going, (h.inv.order i a (fits h).high la gt ((fits h).station ∙ sym st)).ended)
+      ]
 
   put : (x : Record S V) → x ≡ rec e → Put m σ s s x
   put x q = subst (Put m σ s s) (sym q) (record { here = refl; backed = own_backed; above = above_own })
@@ -94,12 +80,11 @@ module _ {S V : Type 0} {m : Make S} {σ : Point S V} {i s steps : ℕ} (late : 
   pub spread_move : (d : Cells (Record S V)) (en : Option (ℕ × End S V)) (r : Row) → Spreads d en r → Move m σ d i s (spread_on en) r
   spread_move d en r k =
       let old = h.inv.sound i (fits h).high in
-      let o = old.opened in
       record {
         grows = record { kind = refl; station = refl; opened = refl; frozen = λ t f. (f, refl, refl) };
         sound = record { number = old.number; low = old.low; high = old.high; opened = omega arith; phase = k.phase; own = old.own; reading = old.reading; owned = old.owned };
         ends = k.ends;
-        later = λ a u la ne d' lt le. let g = taken in let p = late.past in let high = (h.inv.sound a la).high in let above = h.inv.later a i la (fits h).high u d' lt (omega arith) in record { at_most = above.at_most; greater = above.greater };
+        later = λ a u la ne d' lt le. let g = taken in let high = (h.inv.sound a la).high in let above = h.inv.later a i la (fits h).high u d' lt (omega arith) in record { at_most = above.at_most; greater = above.greater };
         reads = λ q. backed_on _ (valueOr_on e.op.stamped moment) (h.inv.reads i (fits h).high q);
         held = k.held;
         others = k.others;
@@ -122,27 +107,17 @@ module _ {S V : Type 0} {m : Make S} {σ : Point S V} {i s steps : ℕ} (late : 
   pub start_move : (steps - n) % 2 ≡ 0 → Move m σ start_cells i s (spread_on e.op.ended) (Busy i (steps + 1))
   start_move even =
       let g = taken in
-      let p = late.past in
       let t = stamped_since in
-      let le = t.2 in
-      let last = t.3 in
       spread_move start_cells e.op.ended (Busy i (steps + 1))
       (record {
         phase = spreading t.0 (fits h).going t.1 (omega arith) (omega arith) (omega arith);
-        ends = λ u q d. absurd (none_some _ _ (fits h).going d);
+        ends = λ u q d. cc (fits h).going;
         held = start_held;
         others = λ w ne. (at_other cells.opened s _ w ne, λ q. refl);
         full = h.inv.full;
         row =
-            busy_row h start_cells _
-            (record {
-              low = (fits h).low;
-              high = (fits h).high;
-              station = (fits h).station;
-              going = (fits h).going;
-              taken = omega arith;
-              middle = at_same cells.opened s _ ∙ ap (λ k. Some (spread_to s k, rec e)) (omega arith) ∙ sym (something_open n s (spread_on e.op.ended) (omega arith) (omega arith));
-              spread = λ j lj. (fits h).spread j (omega arith);
-            });
-        done = λ u q x k. absurd (none_some _ _ (fits h).going q);
+            busy_row h start_cells _ _ _
+            (at_same cells.opened s _ ∙ ap (λ k. Some (spread_to s k, rec e)) (omega arith) ∙ sym (something_open n s (spread_on e.op.ended) (omega arith) (omega arith)))
+            (λ j lj. (fits h).spread j (omega arith));
+        done = λ u q x k. cc (fits h).going;
       })

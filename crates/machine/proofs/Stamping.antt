@@ -5,7 +5,7 @@ use Rattle.stamps.specs.Makes.{Make, Laws}
 use Rattle.machine.specs.Histories.{as_spent}
 use Rattle.machine.specs.declared.line.Kind.TheVariants.{Write, Read}
 use Rattle.machine.specs.declared.row.Row.TheVariants.{Idle, Busy}
-use Rattle.machine.proofs.Basics.{none_some, some_pair, not_both}
+use Rattle.machine.proofs.Basics.{some_pair}
 use Rattle.machine.proofs.Collecting.{met_stamp, met_value, Met, unstamped, backed_met, collected_to, collect_move}
 use Rattle.machine.proofs.Entries.{Entry, Point, collecting, spreading, refused, Backed, RowFits}
 use Rattle.machine.proofs.Moves.{next_point, Move, backed_on}
@@ -32,16 +32,7 @@ module _ {S V : Type 0} {m : Make S} (laws : Laws m) {σ : Point S V} {i s steps
   on st z =
       let g = taken in
       let lt = low in
-      busy_row h cells (collected_to laws met st e.op.ended z)
-      (record {
-        low = (fits h).low;
-        high = (fits h).high;
-        station = (fits h).station;
-        going = (fits h).going;
-        taken = omega arith;
-        middle = (fits h).middle ∙ nothing_open n s e (omega arith) ∙ sym (nothing_open n s (collected_to laws met st e.op.ended z) (omega arith));
-        spread = λ j le. let bad : ⊥ = omega arith in absurd bad;
-      })
+      busy_row h cells st z _ ((fits h).middle ∙ nothing_open n s e (omega arith) ∙ sym (nothing_open n s (collected_to laws met st e.op.ended z) (omega arith))) (λ j le. absurd (omega arith))
 
   pub gather_move : steps + 1 < n → Move m σ cells i s (collected_to laws met e.op.stamped e.op.ended (met_stamp m e x)) (Busy i (steps + 1))
   gather_move lt =
@@ -51,8 +42,8 @@ module _ {S V : Type 0} {m : Make S} (laws : Laws m) {σ : Point S V} {i s steps
       (record {
         up = at_most_refl m laws _;
         phase = collecting (fits h).going none (omega arith);
-        write = λ t _ f. absurd (none_some _ t none f);
-        ends = λ u q d. absurd (none_some _ _ (fits h).going d);
+        write = λ t _ f. cc;
+        ends = λ u q d. cc (fits h).going;
         reads = λ k. subst (λ t. Backed σ (unwrap_or t (moment + 1 + 1)) (met_stamp m e x) (met_value m e x)) (sym none) (backed_on (moment + 1 + 1) (omega arith) (backed_met laws met k));
         row = on _ _;
       })
@@ -64,8 +55,8 @@ module _ {S V : Type 0} {m : Make S} (laws : Laws m) {σ : Point S V} {i s steps
       (record {
         up = at_most_refl m laws _;
         phase = spreading (moment + 1) (fits h).going refl (le_refl _) (omega arith) (omega arith);
-        write = λ t w _. absurd (not_both _ w read);
-        ends = λ u q d. absurd (none_some _ _ (fits h).going d);
+        write = λ t w _. cc;
+        ends = λ u q d. cc (fits h).going;
         reads = backed_met laws met;
         row = on _ _;
       })
@@ -79,8 +70,8 @@ module _ {S V : Type 0} {m : Make S} (laws : Laws m) {σ : Point S V} {i s steps
         up = smaller_at_most m laws _ _ up.0;
         phase = spreading (moment + 1) (fits h).going refl (le_refl _) (omega arith) (omega arith);
         write = λ t w _. (up.1 ∙ sym (fits h).station, up.0);
-        ends = λ u q d. absurd (none_some _ _ (fits h).going d);
-        reads = λ k. absurd (not_both _ write k);
+        ends = λ u q d. cc (fits h).going;
+        reads = λ k. cc;
         row = on _ _;
       })
 
@@ -92,8 +83,8 @@ module _ {S V : Type 0} {m : Make S} (laws : Laws m) {σ : Point S V} {i s steps
       (record {
         up = at_most_refl m laws _;
         phase = refused (moment + 1) refl none (le_refl _) (omega arith) write;
-        write = λ t _ f. absurd (none_some _ t none f);
+        write = λ t _ f. cc;
         ends = λ u q d. let p = some_pair _ _ _ _ d in (sym p.0, sym p.1);
-        reads = λ k. absurd (not_both _ write k);
+        reads = λ k. cc;
         row = let lt = low in idle_row h cells _ as_spent refl ((fits h).middle ∙ nothing_open n s e (omega arith));
       })

@@ -5,12 +5,11 @@
 use Rattle.std.specs.Prelude.{ℕ, ◌+◌, cond, List, [], ◌∷◌, Some, None, Ok, Err, Option, Result, ◌==◌}
 use Rattle.policy.specs.Refusals.{number_of}
 use Rattle.policy.specs.declared.refusal.Refusal.{Refusal}
+use Rattle.banks.specs.declared.record.Record.{Record}
 use Rattle.banks.specs.Meanings.{at_row}
 use Rattle.machine.specs.Runs.{Note, write_note, read_note, step_note, mark_note}
 use Rattle.machine.specs.declared.line.Kind.{Kind}
 use Rattle.machine.specs.declared.line.Kind.TheVariants.{Write, Read}
-use Rattle.machine.specs.declared.row.Stepped.{Stepped}
-use Rattle.machine.specs.declared.row.Stepped.TheVariants.{Going, Done}
 
 -- How an operation ended: a step answered its stamp and value, or refused it as spent.
 pub data End (S V : Type 0) : Type 0 where
@@ -83,13 +82,13 @@ module _ {S V : Type 0} where
   note_accepted b s o =
       record { moment = b.moment + 1; count = b.count; operation = at_row b.operation (b.latest s) o; latest = b.latest }
 
-  abbrev pub note_going : ℕ → Book S V → ℕ → Operation S V → Stepped S V → Book S V
-  note_going n b s o Going = note_accepted b s (with_step o (stamped_by n (b.moment + 1) o) o.ended)
-  note_going n b s o (Done t v) =
-      note_accepted b s (with_step o (stamped_by n (b.moment + 1) o) (Some (b.moment + 1, as_done t v)))
+  abbrev pub note_going : ℕ → Book S V → ℕ → Operation S V → Option (Record S V) → Book S V
+  note_going n b s o None = note_accepted b s (with_step o (stamped_by n (b.moment + 1) o) o.ended)
+  note_going n b s o (Some x) =
+      note_accepted b s (with_step o (stamped_by n (b.moment + 1) o) (Some (b.moment + 1, as_done x.tag x.value)))
 
   -- a step, and what it answered: one that refuses a write as spent, by the refusal 14, counts as accepted
-  abbrev pub note_step : ℕ → Book S V → ℕ → Operation S V → Result (Stepped S V) Refusal → Book S V
+  abbrev pub note_step : ℕ → Book S V → ℕ → Operation S V → Result (Option (Record S V)) Refusal → Book S V
   note_step n b s o (Ok a) = note_going n b s o a
   note_step n b s o (Err e) =
       cond (number_of e == 14) (note_accepted b s (with_step o o.stamped (Some (b.moment + 1, as_spent)))) b

@@ -3,12 +3,12 @@
 --     Note S V            a call with its answer, as an observer sees it: the choice is not seen
 --     act m M c           the note of call c, and the machine after it
 --     play acts M cs      the notes of the calls cs in their order, and the last machine; acts says what a call does
-use Rattle.std.specs.Prelude.{ℕ, Bool, List, [], ◌∷◌, Result}
+use Rattle.std.specs.Prelude.{ℕ, Bool, List, [], ◌∷◌, Option, Result}
 use Rattle.policy.specs.declared.refusal.Refusal.{Refusal}
+use Rattle.banks.specs.declared.record.Record.{Record}
 use Rattle.stamps.specs.Makes.{Make}
 use Rattle.machine.specs.Machines.{Machine, open_write, open_read, mark_cell}
 use Rattle.machine.specs.Steps.{step}
-use Rattle.machine.specs.declared.row.Stepped.{Stepped}
 
 -- stations first; the choice of a step: where a cell has two records, its read answers the open one
 pub data Call (V : Type 0) : Type 0 where
@@ -20,7 +20,7 @@ pub data Call (V : Type 0) : Type 0 where
 pub data Note (S V : Type 0) : Type 0 where
   write_note : ℕ → V → Result ℕ Refusal → Note S V
   read_note : ℕ → Result ℕ Refusal → Note S V
-  step_note : ℕ → Result (Stepped S V) Refusal → Note S V
+  step_note : ℕ → Result (Option (Record S V)) Refusal → Note S V
   mark_note : ℕ → ℕ → Bool → Result (Unit {0}) Refusal → Note S V
 
 module _ {S V : Type 0} where

@@ -21,7 +21,6 @@ use Rattle.machine.specs.declared.line.LineState.TheVariants as states
 use Rattle.machine.specs.declared.line.Line.{Line}
 use Rattle.machine.specs.declared.row.Row.{Row}
 use Rattle.machine.specs.declared.row.Row.TheVariants.{Idle, Busy}
-use Rattle.machine.specs.declared.row.Stepped.{Stepped}
 
 abbrev Stamp : Type 0
 Stamp = ℕ × ℕ
@@ -53,7 +52,7 @@ abbrev pub tied_act : Machine Stamp ℕ → Call ℕ → Note Stamp ℕ × Machi
 tied_act = act by_count
 
 abbrev Answer : Type 0
-Answer = Result (Stepped Stamp ℕ) Refusal × Machine Stamp ℕ
+Answer = Result (Option (Record Stamp ℕ)) Refusal × Machine Stamp ℕ
 
 -- a step of a station with this row, where stage says what it does to its line
 abbrev on_line : (Line Stamp ℕ → Answer) → Machine Stamp ℕ → Option (Line Stamp ℕ) → Answer

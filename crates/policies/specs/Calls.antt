@@ -1,12 +1,12 @@
 -- What a register answers to a call that is given as a value. Assumes nothing.
 --     answering m M f c       the answer to call c and the machine after it, over a bank that chooses by f
-use Rattle.std.specs.Prelude.{ℕ, Bool, Ok, Err, Result}
+use Rattle.std.specs.Prelude.{ℕ, Bool, Ok, Err, Option, Result}
 use Rattle.policy.specs.declared.refusal.Refusal.{Refusal}
 use Rattle.banks.specs.Marks.{is_up}
+use Rattle.banks.specs.declared.record.Record.{Record}
 use Rattle.stamps.specs.Makes.{Make}
 use Rattle.machine.specs.Machines.{Machine, row_of, open_write, open_read, mark_cell}
 use Rattle.machine.specs.Steps.{step}
-use Rattle.machine.specs.declared.row.Stepped.{Stepped}
 use Rattle.register.specs.Stages.{choice_at}
 use Rattle.policies.specs.declared.calls.Call.{Call}
 use Rattle.policies.specs.declared.calls.Call.TheVariants.{Write, Read, Step, Mark}
@@ -18,7 +18,7 @@ module _ {S V : Type 0} where
   opened (Ok i) = Ok (Opened i)
   opened (Err e) = Err e
 
-  abbrev stepped : Result (Stepped S V) Refusal → Result (Answer S V) Refusal
+  abbrev stepped : Result (Option (Record S V)) Refusal → Result (Answer S V) Refusal
   stepped (Ok a) = Ok (Moved a)
   stepped (Err e) = Err e
 

@@ -1,12 +1,8 @@
 // The account of a register: calls with their answers, and the journal as it then stands.
-use crate::calls::{Answer, Call, call_register};
-use crate::show::print_line;
+use crate::calls::{Answer, Call, Running};
 use banks::bank::Bank;
 use banks::record::Record;
-use machine::line::Line;
 use policy::refusal::Refusal;
-use register::journal::Journal;
-use register::register::Register;
 use stamps::Stamp;
 use std::fmt::Display;
 use std::io;
@@ -32,43 +28,30 @@ fn print_call<S: Copy + Display, V: Copy + Display>(
     }
 }
 
-// Prints the first lines of the journal, so many.
-fn print_journal<S: Copy + Display, V: Copy + Display>(
-    rt: &impl Print,
-    journal: &Journal<'_, Line<S, V>>,
-    used: u64,
-) -> io::Result<()> {
-    println!(rt; "lines {used}")?;
-    for before in 0..used {
-        if let Some(line) = journal.line(before + 1) {
-            print_line(rt, line)?;
-        }
-    }
-    Ok(())
-}
-
-// Takes the turns in their order. A call is printed with its answer; the last line number answered is that of the lines in use.
-pub fn account<S: Stamp + Display, V: Copy + Display, B: Bank<Record<S, V>>>(
-    rt: &impl Print,
-    register: &mut Register<S, V>,
-    bank: &mut B,
-    journal: &mut Journal<'_, Line<S, V>>,
-    turns: &[Turn<V>],
-) -> io::Result<()> {
-    let mut used = 0;
-    for turn in turns {
-        match turn {
-            Turn::Calls(times, call) => {
-                for _ in 0..*times {
-                    let answered = call_register(register, bank, journal, *call);
-                    if let Ok(Answer::Opened(line)) = answered {
-                        used = line;
+impl<S: Stamp + Display, V: Copy + Display, B: Bank<Record<S, V>>> Running<'_, S, V, B> {
+    // Takes the turns in their order. A call is printed with its answer.
+    pub fn account(&mut self, rt: &impl Print, turns: &[Turn<V>]) -> io::Result<()> {
+        for turn in turns {
+            match turn {
+                Turn::Calls(times, call) => {
+                    for _ in 0..*times {
+                        let answered = self.call(*call);
+                        print_call(rt, *call, answered)?;
                     }
-                    print_call(rt, *call, answered)?;
                 }
+                Turn::List => self.print_journal(rt)?,
             }
-            Turn::List => print_journal(rt, journal, used)?,
         }
+        Ok(())
     }
-    Ok(())
+
+    // Prints the lines in use.
+    fn print_journal(&self, rt: &impl Print) -> io::Result<()> {
+        let used = self.register.used();
+        println!(rt; "lines {used}")?;
+        for line in (1..=used).filter_map(|number| self.journal.line(number)) {
+            println!(rt; "{line}")?;
+        }
+        Ok(())
+    }
 }

@@ -8,7 +8,6 @@ ghost use Rattle.policies.specs.Calls.{answering};
 use banks::bank::{Bank, Mark};
 use banks::record::Record;
 use machine::line::Line;
-use machine::row::Stepped;
 use policy::refusal::Refusal;
 use register::journal::Journal;
 use register::register::Register;
@@ -28,35 +27,46 @@ pub enum Call<V> {
 pub enum Answer<S, V> {
     // an operation was opened, with this line number
     Opened(u64),
-    Moved(Stepped<S, V>),
+    // a step was taken, and the operation is done with this record, if it is
+    Moved(Option<Record<S, V>>),
     Marked,
 }
 
-// Makes the call.
-pub fn call_register<S: Stamp, V: Copy, B: Bank<Record<S, V>>>(
-    register: &mut Register<S, V>,
-    bank: &mut B,
-    journal: &mut Journal<'_, Line<S, V>>,
-    call: Call<V>,
-) -> Result<Answer<S, V>, Refusal>
-    ensures { ◌≡◌ {A = Result (Answer S V) Refusal × Machine S V} (result, seen register.new (B.Bank.meaning bank.new) journal.new.lines.now) (answering S.Stamp.make (seen register.old (B.Bank.meaning bank.old) journal.old.lines.now) (B.Bank.chooses bank.old) call) }
-{
-    match call {
-        Call::Write(station, value) => {
-            let line = register.open_write(journal, station, value)?;
-            Ok(Answer::Opened(line))
-        }
-        Call::Read(station) => {
-            let line = register.open_read(journal, station)?;
-            Ok(Answer::Opened(line))
-        }
-        Call::Step(station) => {
-            let moved = register.step(bank, journal, station)?;
-            Ok(Answer::Moved(moved))
-        }
-        Call::Mark(writer, reader, mark) => {
-            bank.mark(writer, reader, mark)?;
-            Ok(Answer::Marked)
+// A register with its bank and its journal.
+#[derive(Drop)]
+pub struct Running<'a, S, V, B> {
+    pub register: Register<S, V>,
+    pub bank: B,
+    pub journal: Journal<'a, Line<S, V>>,
+}
+
+impl<S: Stamp, V: Copy, B: Bank<Record<S, V>>> Running<'_, S, V, B> {
+    // Makes the call.
+    pub fn call(&mut self, call: Call<V>) -> Result<Answer<S, V>, Refusal>
+        ensures { ◌≡◌ {A = Result (Answer S V) Refusal × Machine S V} (result, seen self.new.register (B.Bank.meaning self.new.bank) self.new.journal.lines.now) (answering S.Stamp.make (seen self.old.register (B.Bank.meaning self.old.bank) self.old.journal.lines.now) (B.Bank.chooses self.old.bank) call) }
+    {
+        let Running {
+            register,
+            bank,
+            journal,
+        } = self;
+        match call {
+            Call::Write(station, value) => {
+                let line = register.open_write(journal, station, value)?;
+                Ok(Answer::Opened(line))
+            }
+            Call::Read(station) => {
+                let line = register.open_read(journal, station)?;
+                Ok(Answer::Opened(line))
+            }
+            Call::Step(station) => {
+                let moved = register.step(bank, journal, station)?;
+                Ok(Answer::Moved(moved))
+            }
+            Call::Mark(writer, reader, mark) => {
+                bank.mark(writer, reader, mark)?;
+                Ok(Answer::Marked)
+            }
         }
     }
 }

@@ -3,18 +3,13 @@
 
 mod account;
 mod calls;
-mod pile;
 mod scenes;
 mod show;
 mod turns;
 
 use crate::scenes::{entries, numbers};
 
-fn run(rt: &HostRuntime) -> anyhow::Result<()> {
-    entries(rt)?;
-    numbers(rt)
-}
-
 fn main(rt: HostRuntime) -> anyhow::Result<()> {
-    run(&rt)
+    entries(&rt)?;
+    numbers(&rt)
 }

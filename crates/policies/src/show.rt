@@ -1,11 +1,9 @@
-// Calls, answers and journal lines as text.
+// Calls and answers as text.
 use crate::calls::{Answer, Call};
 use banks::bank::Mark;
 use banks::record::Record;
-use machine::line::{Kind, Line, LineState};
-use machine::row::Stepped;
+use std::fmt;
 use std::fmt::Display;
-use std::{fmt, io};
 
 // The call's name, and then its stations and its value.
 impl<V: Display> fmt::Display for Call<V> {
@@ -25,50 +23,8 @@ impl<S: Display, V: Display> fmt::Display for Answer<S, V> {
     fn fmt<W: fmt::Write>(&self, f: &mut fmt::Formatter<W>) -> fmt::Result {
         match self {
             Answer::Opened(line) => write!(f, "line {line}"),
-            Answer::Moved(Stepped::Done(stamp, value)) => write!(f, "done {stamp} {value}"),
-            Answer::Moved(Stepped::Going) | Answer::Marked => write!(f, "ok"),
+            Answer::Moved(Some(Record { tag, value })) => write!(f, "done {tag} {value}"),
+            Answer::Moved(None) | Answer::Marked => write!(f, "ok"),
         }
     }
-}
-
-// W or R.
-fn kind_letter(kind: Kind) -> &'static str {
-    match kind {
-        Kind::Write => "W",
-        Kind::Read => "R",
-    }
-}
-
-fn state_name(state: LineState) -> &'static str {
-    match state {
-        LineState::Collecting => "collecting",
-        LineState::Spreading => "spreading",
-        LineState::Done => "done",
-        LineState::Spent => "spent",
-    }
-}
-
-// Kind, station, state, stamp, value, opened, ended.
-pub fn print_line<S: Copy + Display, V: Copy + Display>(
-    rt: &impl Print,
-    line: Line<S, V>,
-) -> io::Result<()> {
-    let kind = kind_letter(line.kind);
-    let station = line.station;
-    let state = state_name(line.state);
-    let stamp = line.stamp;
-    let value = line.value;
-    let opened = line.opened;
-    let ended = line.ended;
-    println!(rt; "{kind} {station} {state} {stamp} {value} {opened} {ended}")
-}
-
-// What a register starts from.
-pub fn print_make<S: Copy + Display, V: Copy + Display>(
-    rt: &impl Print,
-    origin: Record<S, V>,
-) -> io::Result<()> {
-    let stamp = origin.tag;
-    let value = origin.value;
-    println!(rt; "make {stamp} {value}: ok")
 }

@@ -8,7 +8,7 @@ use std::fmt;
 #[derive(Clone, Copy, PartialEq, Eq, Debug)]
 pub struct PolicyNumber(pub u32);
 
-// Printed in decimal.
+// Printed in decimal. Written out, here and below, since no derive states what is printed.
 impl fmt::Display for PolicyNumber {
     ghost output = { λ x. Some (shown_number x) };
 

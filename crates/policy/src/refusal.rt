@@ -2,6 +2,7 @@
 ghost use Rattle.std.specs.Prelude.{◌≡◌, Some};
 ghost use Rattle.policy.specs.Refusals.{number_of, Tells, shown_refusal};
 
+use std::error::Error;
 use std::fmt;
 
 // Where a cell lies: how many layers stand over its bank, and its writer and reader in that bank's numbers.
@@ -51,7 +52,7 @@ pub enum Refusal {
 }
 
 impl Refusal {
-    // The refusal's number. No two cases have the same one.
+    // The refusal's number, written out since one case carries a place. No two cases have the same one.
     pub fn number(&self) -> u8
         ensures value { result ≡ number_of self.now }
         ensures tells { Tells self.now result }
@@ -79,6 +80,8 @@ impl Refusal {
         }
     }
 }
+
+impl Error for Refusal {}
 
 // The number; behind 15 the place: depth, writer, reader.
 impl fmt::Display for Refusal {

@@ -1,8 +1,5 @@
-mod Accepts
+mod Downward
 mod Founding
 mod Latest
-mod Owes
 pub mod Reaching
 mod Singles
-mod Stages
-mod Ties

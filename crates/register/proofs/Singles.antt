@@ -14,7 +14,6 @@ use Rattle.machine.specs.declared.line.Kind.TheVariants.{Write, Read}
 use Rattle.machine.specs.declared.line.Line.{Line}
 use Rattle.machine.specs.declared.row.Row.{Row}
 use Rattle.machine.specs.declared.row.Row.TheVariants.{Idle, Busy}
-use Rattle.machine.specs.declared.row.Stepped.{Stepped}
 use Rattle.register.specs.Single.{OneCell, one_read, one_start, one_finish, OwnRow, Single}
 
 -- not refused by 14
@@ -64,7 +63,7 @@ module _ {R : Type 0} where
 
 module _ {S V : Type 0} (m : Make S) (M : Machine S V) (choice : Bool) (s : ℕ) where
   abbrev Answer : Type 0
-  Answer = Result (Stepped S V) Refusal × Machine S V
+  Answer = Result (Option (Record S V)) Refusal × Machine S V
 
   abbrev IsSingle : Answer → Type 0
   IsSingle p = Single s p.0 M.bank p.1.bank

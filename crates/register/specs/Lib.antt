@@ -1,6 +1,7 @@
 pub mod CellWork
 pub mod Lookups
 pub mod Makings
+pub mod Operations
 pub mod Owing
 pub mod Reach
 pub mod Seen

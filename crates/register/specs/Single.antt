@@ -2,11 +2,11 @@
 --     OneCell s b d          one accepted cell operation of station s leads from the bank b to the bank d
 --     OwnRow s b d           from b to d, no cell of another writer than s changes
 --     Single s a b d          a step of s that answered a and led from b to d, if it was accepted, is one cell operation of s
-use Rattle.std.specs.Prelude.{◌≡◌, ℕ, Bool, Ok, Err, Result, ◌≢◌}
+use Rattle.std.specs.Prelude.{◌≡◌, ℕ, Bool, Ok, Err, Option, Result, ◌≢◌}
 use Rattle.policy.specs.Refusals.{number_of}
 use Rattle.policy.specs.declared.refusal.Refusal.{Refusal}
+use Rattle.banks.specs.declared.record.Record.{Record}
 use Rattle.banks.specs.Meanings.{Meaning, read, start, finish}
-use Rattle.machine.specs.declared.row.Stepped.{Stepped}
 
 module _ {R : Type 0} where
   -- a read of a cell in its column, which leaves the bank as it was; a start of a cell in its row; a finish in its row
@@ -20,6 +20,6 @@ module _ {R : Type 0} where
       (w : ℕ) → (w ≢ s) → (after.opened w ≡ before.opened w) × ((r : ℕ) → after.settled w r ≡ before.settled w r)
 
 -- a step that refuses a write as spent, by 14, counts as accepted
-abbrev pub Single : {R S V : Type 0} → ℕ → Result (Stepped S V) Refusal → Meaning R → Meaning R → Type 0
+abbrev pub Single : {R S V : Type 0} → ℕ → Result (Option (Record S V)) Refusal → Meaning R → Meaning R → Type 0
 Single s (Ok x) before after = OneCell s before after × OwnRow s before after
 Single s (Err e) before after = number_of e ≡ 14 → OneCell s before after × OwnRow s before after

@@ -1,8 +1,9 @@
 // Collecting and spreading: the cell work of one step, for every stamp, value and bank.
-ghost use Rattle.std.specs.Prelude.{◌≡◌, ℕ, Bool, Result};
+ghost use Rattle.std.specs.Prelude.{◌≡◌, ℕ, Bool, Result, Err, IfErr};
 ghost use Rattle.policy.specs.declared.refusal.Refusal.{Refusal};
-ghost use Rattle.banks.specs.Meanings.{Meaning};
+ghost use Rattle.banks.specs.Meanings.{Meaning, read};
 ghost use Rattle.banks.specs.declared.record.Record.{Record};
+ghost use Rattle.machine.specs.Machines.{record_of};
 ghost use Rattle.machine.specs.declared.line.Line.{Line};
 ghost use Rattle.register.specs.CellWork.{collect_cell, collect_into, spread_cell};
 
@@ -33,7 +34,8 @@ pub(crate) fn collect_into<S: Stamp, V: Copy, B: Bank<Record<S, V>>>(
     station: u8,
     line: &mut Line<S, V>,
 ) -> Result<(), Refusal>
-    ensures { ◌≡◌ {A = Result (Unit {0}) Refusal × Line S V × Meaning (Record S V)} (result, line.new, B.Bank.meaning bank.new) (collect_into S.Stamp.make (B.Bank.meaning bank.old) (B.Bank.chooses bank.old writer station) writer station line.old) }
+    ensures call { ◌≡◌ {A = Result (Unit {0}) Refusal × Line S V × Meaning (Record S V)} (result, line.new, B.Bank.meaning bank.new) (collect_into S.Stamp.make (B.Bank.meaning bank.old) (B.Bank.chooses bank.old writer station) writer station line.old) }
+    ensures refused { IfErr result (λ e. (read (B.Bank.meaning bank.old) (B.Bank.chooses bank.old writer station) writer station).0 ≡ Err e) }
 {
     let met = bank.read(writer, station)?;
     if line.stamp.smaller(&met.tag) {
@@ -55,9 +57,15 @@ pub fn spread<S: Copy, V: Copy, B: Bank<Record<S, V>>>(
 ) -> Result<(), Refusal>
     ensures { ◌≡◌ {A = Result (Unit {0}) Refusal × Meaning (Record S V)} (result, B.Bank.meaning bank.new) (spread_cell (B.Bank.meaning bank.old) station reader line.now) }
 {
-    let record = Record {
+    bank.start(station, reader, record(line))
+}
+
+// The record of a line.
+pub(crate) fn record<S: Copy, V: Copy>(line: &Line<S, V>) -> Record<S, V>
+    ensures { result ≡ record_of line.now }
+{
+    Record {
         tag: line.stamp,
         value: line.value,
-    };
-    bank.start(station, reader, record)
+    }
 }

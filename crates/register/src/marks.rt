@@ -24,18 +24,5 @@ pub fn mark<S: Stamp, V: Copy, B: Bank<Record<S, V>>>(
     ensures call { ◌≡◌ {A = Result (Unit {0}) Refusal × Meaning (Record S V)} (result, B.Bank.meaning bank.new) (marks (B.Bank.meaning bank.old) writer reader (is_up mark)) }
     ensures reached { (r : Register S V) (lines : List (Line S V)) → Leads S.Stamp.make (seen r (B.Bank.meaning bank.old) lines) (seen r (B.Bank.meaning bank.new) lines) }
 {
-    carry(bank, writer, reader, mark)
-}
-
-// The bank's call, with what it means for a register.
-fn carry<S: Stamp, V: Copy, B: Bank<Record<S, V>>>(
-    bank: &mut B,
-    writer: u8,
-    reader: u8,
-    mark: Mark,
-) -> Result<(), Refusal>
-    ensures call { ◌≡◌ {A = Result (Unit {0}) Refusal × Meaning (Record S V)} (result, B.Bank.meaning bank.new) (marks (B.Bank.meaning bank.old) writer reader (is_up mark)) }
-    ensures reached { (r : Register S V) (lines : List (Line S V)) → Leads S.Stamp.make (seen r (B.Bank.meaning bank.old) lines) (seen r (B.Bank.meaning bank.new) lines) }
-{
     bank.mark(writer, reader, mark)
 }

@@ -8,6 +8,7 @@ use banks::record::Record;
 pub mod calls;
 pub mod counts;
 pub mod make;
+mod operation;
 
 // The most lines of a journal.
 pub const LINES: u64 = 4096;

@@ -3,19 +3,12 @@
 
 use account::page::Page;
 use account::player::Player;
-use std::io::{Read, Write};
-
-// The most bytes that are read.
-const LIMIT: usize = 65536;
+use commands::input::{LIMIT, read_file};
+use std::io::Write;
 
 fn main(rt: HostRuntime) -> anyhow::Result<()> {
-    run(&rt)
-}
-
-fn run(rt: &HostRuntime) -> anyhow::Result<()> {
     let heap = rt.alloc();
-    let mut input = Vec::new(heap);
-    rt.stdin().take(65536).read_to_end(&mut input)?;
+    let input = read_file(heap, rt.stdin())?;
     let mut player = Player::new(&input);
     let mut page = Page::new();
     while player.next(heap, &mut page)? {

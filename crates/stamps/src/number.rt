@@ -4,7 +4,7 @@ ghost use Rattle.std.specs.Prelude.{◌≡◌, ◌%◌, ◌≤◌};
 pub mod calls;
 
 // The number is count × 32 + owner, and stamps are compared by it.
-#[derive(Clone, Copy, PartialEq, Eq, Debug)]
+#[derive(Clone, Copy, PartialEq, Eq, PartialOrd, Ord, Debug)]
 pub struct NumberStamp {
     number: u32,
     ghost bounded: { number % 32 ≤ 16 },

@@ -29,7 +29,7 @@ pub trait Stamp: Copy {
     fn owner(&self) -> u8
         ensures { result ≡ make.owner self.now };
 
-    // Writes the stamp as count, full stop, owner.
+    // Writes the stamp as count, full stop, owner. The impls of Display call it: Rust has none for every Stamp at once.
     fn print<W: fmt::Write>(&self, f: &mut fmt::Formatter<W>) -> fmt::Result
         ensures { DisplaysOnOk W.write_str_gives f.old result (Some (shown_stamp make self.now)) f.new }
     {

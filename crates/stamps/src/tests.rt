@@ -36,22 +36,16 @@ fn numbers(rt: HostRuntime) -> Result<(), Fail> {
     assert!(rt; NumberStamp::new(0, 17).is_none());
     assert!(rt; NumberStamp::from_number(17).is_none());
     assert!(rt; NumberStamp::from_number(31).is_none());
-    let Some(stamp) = NumberStamp::from_number(16) else {
-        return Err(Fail::new("owner 16"));
-    };
+    let stamp = NumberStamp::from_number(16).ok_or("owner 16")?;
     assert_eq!(rt; stamp.number(), 16);
     Ok(())
 }
 
 #[test]
 fn printed(rt: HostRuntime) -> Result<(), Fail> {
-    let Some(pair) = PairStamp::new(4294967295, 16) else {
-        return Err(Fail::new("the last pair stamp"));
-    };
+    let pair = PairStamp::new(4294967295, 16).ok_or("the last pair stamp")?;
     assert_eq!(rt; pair.to_string(rt.alloc())?.as_str(), "4294967295.16");
-    let Some(number) = NumberStamp::from_number(4294967280) else {
-        return Err(Fail::new("the last number stamp"));
-    };
+    let number = NumberStamp::from_number(4294967280).ok_or("the last number stamp")?;
     assert_eq!(rt; number.to_string(rt.alloc())?.as_str(), "134217727.16");
     Ok(())
 }

@@ -30,53 +30,48 @@ impl Table {
     pub fn row(&self, station: u8) -> Row
         ensures { result ≡ row_of self.now.rows station }
     {
-        row_at(&self.rows, station.saturating_sub(1) as usize)
+        self.rows
+            .get(station.saturating_sub(1) as usize)
+            .copied()
+            .unwrap_or(Row::Idle)
     }
 
     // Puts a station at the beginning of the operation with that line.
     pub fn open(&mut self, station: u8, line: u64)
         ensures { self.new.rows ≡ slice_set self.old.rows (station - 1) (Busy line 0) }
     {
-        let at = station.saturating_sub(1) as usize;
-        if at < self.rows.len() {
-            self.rows[at] = Row::Busy { line, progress: 0 };
-        }
+        self.set(station, Row::Busy { line, progress: 0 });
     }
 
     // Makes a station idle.
     pub fn rest(&mut self, station: u8)
         ensures { self.new.rows ≡ slice_set self.old.rows (station - 1) Idle }
     {
-        let at = station.saturating_sub(1) as usize;
-        if at < self.rows.len() {
-            self.rows[at] = Row::Idle;
-        }
+        self.set(station, Row::Idle);
     }
 
     // Puts a station's operation at that progress.
     pub fn advance(&mut self, station: u8, progress: u64)
         ensures { self.new.rows ≡ slice_set self.old.rows (station - 1) (advanced (row_of self.old.rows station) progress) }
     {
+        // the row is changed in place, and not written whole by `set`
         let at = station.saturating_sub(1) as usize;
         if at < self.rows.len() {
-            advance(&mut self.rows[at], progress);
+            match &mut self.rows[at] {
+                Row::Busy { progress: own, .. } => *own = progress,
+                Row::Idle => {}
+            }
         }
     }
-}
 
-// The row at a place, from 0. Idle where there is none.
-fn row_at(rows: &[Row; 16], at: usize) -> Row
-    ensures { result ≡ slice_index_or rows.now at Idle }
-{
-    if at < rows.len() { rows[at] } else { Row::Idle }
-}
-
-// Changes a row in place.
-fn advance(row: &mut Row, progress: u64)
-    ensures { row.new ≡ advanced row.old progress }
-{
-    match row {
-        Row::Busy { progress: at, .. } => *at = progress,
-        Row::Idle => {}
+    // Writes the row of a station; nothing changes where it has none.
+    fn set(&mut self, station: u8, row: Row)
+        ensures { self.new.rows ≡ slice_set self.old.rows (station - 1) row }
+    {
+        // an index, since a proof knows no element of a slice after its `get_mut`
+        let at = station.saturating_sub(1) as usize;
+        if at < self.rows.len() {
+            self.rows[at] = row;
+        }
     }
 }

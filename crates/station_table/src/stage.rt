@@ -23,18 +23,13 @@ impl Stage {
         ensures { result ≡ stage_of stations progress }
     {
         let n = stations as u64;
-        if progress < n {
-            if progress + 1 == n {
-                Stage::Stamping
-            } else {
-                Stage::Collecting
-            }
-        } else if (progress - n) % 2 == 0 {
-            Stage::Starting
-        } else if progress < 3 * n && 3 * n - progress == 1 {
-            Stage::Ending
-        } else {
-            Stage::Finishing
+        match progress.checked_sub(n) {
+            None if progress + 1 == n => Stage::Stamping,
+            None => Stage::Collecting,
+            Some(past) if past % 2 == 0 => Stage::Starting,
+            // the last of n pairs of a start and a finish
+            Some(past) if past / 2 + 1 == n => Stage::Ending,
+            Some(_) => Stage::Finishing,
         }
     }
 }

@@ -4,26 +4,20 @@
 mod rounds;
 
 use crate::rounds::drive;
-use anyhow::anyhow;
+use anyhow::Context;
 use std::env;
 
 fn number(word: Option<String>) -> anyhow::Result<u64> {
-    match word {
-        Some(word) => Ok(word.as_str().parse::<u64>()?),
-        None => Err(anyhow!("two numbers: journal lines, rounds")),
-    }
+    let word = word.context("two numbers: journal lines, rounds")?;
+    Ok(word.as_str().parse::<u64>()?)
 }
 
-fn run(rt: &HostRuntime) -> anyhow::Result<()> {
-    let mut args = env::args(rt)?;
+fn main(rt: HostRuntime) -> anyhow::Result<()> {
+    let mut args = env::args(&rt)?;
     let _program = args.next();
     let lines = number(args.next())?;
     let rounds = number(args.next())?;
     let steps = drive(rt.alloc(), lines, rounds)?;
     println!(rt; "{steps}")?;
     Ok(())
-}
-
-fn main(rt: HostRuntime) -> anyhow::Result<()> {
-    run(&rt)
 }

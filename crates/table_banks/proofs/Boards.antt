@@ -1,5 +1,5 @@
 -- Lemmas on board banks. Assumes nothing.
-use Rattle.std.proofs.Common.{◌≡◌, ℕ, ◌*◌, ◌≤◌, Bool, true, false, cond, ◌&&◌, eqb, List, ◌++◌, length, drop, set, replicate, Some, None, sym, refl, ap, ◌∙◌, arith}
+use Rattle.std.proofs.Common.{◌≡◌, ℕ, ◌*◌, ◌≤◌, Bool, true, false, cond, ◌&&◌, eqb, List, ◌++◌, length, drop, set, replicate, Some, None, vec_items, sym, refl, ap, ◌∙◌, arith}
 use Rattle.banks.proofs.Shared.{cond_map}
 use Rattle.std.specs.List.{slice_get}
 use Rattle.std.specs.Option.{option_map}
@@ -7,10 +7,10 @@ use Rattle.std.proofs.lemmas.Bool.{cond-true, cond-false, eqb-true, ne_eqb, and_
 use Rattle.banks.specs.Meanings.{known, at_cell, started, finished}
 use Rattle.table_banks.specs.Cells.{cell}
 use Rattle.table_banks.specs.Notes.{Noted, seen, fresh, with_reader}
-use Rattle.table_banks.specs.Bottoms.{filling}
-use Rattle.table_banks.specs.Boards.{on_board, board_meaning, board_lines, board_spare, line_settled, line_open}
+use Rattle.table_banks.specs.Bottoms.{filling, meant}
+use Rattle.table_banks.specs.Boards.{on_board, board_held, line_settled, line_open}
 use Rattle.table_banks.specs.declared.board.BoardLine.{BoardLine}
-use Rattle.table_banks.specs.declared.board.Board.{Board}
+use Rattle.table_banks.specs.declared.board.BoardTable.{BoardTable}
 use Rattle.table_banks.proofs.Placing.{cell_within, nth_cell}
 use Rattle.table_banks.proofs.Noting.{noted_home}
 use Rattle.table_banks.proofs.Tables.{front_line}
@@ -18,10 +18,10 @@ use Rattle.table_banks.proofs.Bottoms.{Homes, fresh_bottom, bottom_started, bott
 
 module _ {R : Type 0} where
   -- every line of the cells holds x twice
-  pub board_filled : (n : ℕ) (x : R) (xs ys : List (BoardLine R)) → xs ≡ replicate (n * n) (record { settled = x; opened = x }) ++ ys → on_board (fresh n) xs ≡ filling n x
-  board_filled n x xs ys front =
+  pub board_filled : (n : ℕ) (x : R) (ws xs : List (BoardLine R)) → xs ≡ replicate (n * n) (record { settled = x; opened = x }) ++ drop (n * n) ws → on_board (fresh n) xs ≡ filling n x
+  board_filled n x ws xs front =
       fresh_bottom (line_settled xs n) (line_open xs n) n x
-      (λ w r h. ap (option_map (λ l. l.settled)) (front_line (n * n) (record { settled = x; opened = x }) xs ys front (cell n w r) (cell_within n w r h)))
+      (λ w r h. ap (option_map (λ l. l.settled)) (front_line (n * n) (record { settled = x; opened = x }) xs (drop (n * n) ws) front (cell n w r) (cell_within n w r h)))
 
 -- notes k over the lines xs, with the line of cell (w, r) written anew
 module _ {R : Type 0} (k : Noted) (homes : Homes k) (xs : List (BoardLine R)) (room : k.stations * k.stations ≤ length xs) (w r : ℕ) (home : known k.stations w r ≡ true) where
@@ -67,17 +67,17 @@ module _ {R : Type 0} (k : Noted) (homes : Homes k) (xs : List (BoardLine R)) (r
       new : BoardLine R
       new = record { settled = x; opened = y }
 
-board_room : {R : Type 0} (b : Board R) → b.notes.count * b.notes.count ≤ length (board_lines b)
-board_room b = omega (arith, b.room, b.lines.ok.0)
+board_room : {R : Type 0} (t : BoardTable R) → t.notes.count * t.notes.count ≤ length (vec_items t.lines)
+board_room t = omega (arith, t.room, t.lines.ok.0)
 
--- a board b, with a line written at the place i of cell (w, r), so that its lines are ys and its notes m
-module _ {R : Type 0} (b : Board R) (w r : ℕ) (home : known b.notes.count w r ≡ true) {i : ℕ} (at : i ≡ cell b.notes.count w r) {m : Noted} {ys : List (BoardLine R)} where
-  pub board_put_open : (x : R) (l : BoardLine R) → slice_get (board_lines b) i ≡ Some l → m ≡ with_reader (seen b.notes) w (Some r) → ys ≡ set (board_lines b) i (record { settled = l.settled; opened = x }) → (on_board m ys ≡ started (board_meaning b) w r x) × (drop (m.stations * m.stations) ys ≡ board_spare b)
-  board_put_open x l was noted items =
-      written on_board (λ n. n * n) (seen b.notes) (board_lines b) (cell b.notes.count w r) _ w (Some r) (cell_within b.notes.count w r home) at noted items
-      (board_started (seen b.notes) (noted_home b.notes) (board_lines b) (board_room b) w r home x l (ap (slice_get (board_lines b)) (sym at) ∙ was))
+-- the table t of a board, once the line of cell (w, r), at the place i, is written and its notes are m
+module _ {R : Type 0} (t : BoardTable R) (w r : ℕ) (home : known t.notes.count w r ≡ true) {i : ℕ} (at : i ≡ cell t.notes.count w r) {m : Noted} (l : BoardLine R) where
+  pub board_put_open : (x : R) → slice_get (vec_items t.lines) i ≡ Some l → m ≡ with_reader (seen t.notes) w (Some r) → on_board m (set (vec_items t.lines) i (record { settled = l.settled; opened = x })) ≡ started (meant (board_held t)) w r x
+  board_put_open x was noted =
+      written on_board (vec_items t.lines) _ at noted
+      (board_started (seen t.notes) (noted_home t.notes) (vec_items t.lines) (board_room t) w r home x l (ap (slice_get (vec_items t.lines)) (sym at) ∙ was))
 
-  pub board_settle : (x y : R) → m ≡ with_reader (seen b.notes) w None → ys ≡ set (board_lines b) i (record { settled = x; opened = y }) → (on_board m ys ≡ finished (board_meaning b) w r x) × (drop (m.stations * m.stations) ys ≡ board_spare b)
-  board_settle x y noted items =
-      written on_board (λ n. n * n) (seen b.notes) (board_lines b) (cell b.notes.count w r) _ w None (cell_within b.notes.count w r home) at noted items
-      (board_finished (seen b.notes) (noted_home b.notes) (board_lines b) (board_room b) w r home x y)
+  pub board_settle : (x : R) → m ≡ with_reader (seen t.notes) w None → on_board m (set (vec_items t.lines) i (record { settled = x; opened = l.opened })) ≡ finished (meant (board_held t)) w r x
+  board_settle x noted =
+      written on_board (vec_items t.lines) _ at noted
+      (board_finished (seen t.notes) (noted_home t.notes) (vec_items t.lines) (board_room t) w r home x l.opened)

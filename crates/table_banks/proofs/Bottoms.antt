@@ -1,12 +1,13 @@
 -- Lemmas on banks at the bottom of a pile. Assumes nothing.
-use Rattle.std.proofs.Common.{◌≡◌, ℕ, ◌<◌, Bool, true, false, cond, ◌&&◌, eqb, List, drop, set, Some, None, Option, sym, refl, ap, ◌∙◌}
+use Rattle.std.proofs.Common.{◌≡◌, ℕ, ◌≤◌, Bool, true, false, cond, ◌&&◌, eqb, leb, List, ◌++◌, length, take, drop, set, Some, None, Ok, Err, Option, sym, refl, ap, ◌∙◌, arith}
 use Rattle.banks.proofs.Shared.{same_meaning}
 use Rattle.std.specs.Option.{option_map}
-use Rattle.std.proofs.lemmas.List.{drop-set-lt}
-use Rattle.std.proofs.lemmas.Bool.{cond-false, eqb-true, eqb-false}
-use Rattle.banks.specs.Meanings.{Meaning, known, at_cell, started, finished}
-use Rattle.table_banks.specs.Notes.{Noted, fresh, with_reader}
-use Rattle.table_banks.specs.Bottoms.{bottom, open_record, filling}
+use Rattle.std.proofs.lemmas.Grind.{common_steps}
+use Rattle.std.proofs.lemmas.Bool.{cond-true, cond-false, eqb-true, eqb-false, le-leb}
+use Rattle.policy.specs.declared.refusal.Refusal.TheVariants.{StationCount, TableSize}
+use Rattle.banks.specs.Meanings.{Meaning, inside, known, at_cell, started, finished}
+use Rattle.table_banks.specs.Notes.{Noted, fresh, noted_new, with_reader}
+use Rattle.table_banks.specs.Bottoms.{bottom, open_record, filling, spare, Made, making}
 use Rattle.table_banks.proofs.Placing.{known_other}
 
 -- the same record in a cell, or no cell
@@ -61,12 +62,25 @@ module _ {R : Type 0} (k : Noted) (homes : Homes k) (s o t p : ℕ → ℕ → O
       column v q true e = settles v q e
       column v q false e = sym (cond-false (eqb v w && eqb q r) (Some x) None (known_other k.stations v q w r e home))
 
--- A table xs of a bank with the notes k, whose first f n lines are those of n stations: the line y is written at a place i among
--- them, and the writer w has o open. What the bank then means is what its notes and its lines say, and the spare lines stay.
-pub written : {R L : Type 0} (on : Noted → List L → Meaning R) (f : ℕ → ℕ) (k : Noted) (xs : List L) (i : ℕ) (y : L) (w : ℕ) (o : Option ℕ) {j : ℕ} {m : Noted} {ys : List L} {z : Meaning R}
-    → i < f k.stations → j ≡ i → m ≡ with_reader k w o → ys ≡ set xs j y → on (with_reader k w o) (set xs i y) ≡ z → (on m ys ≡ z) × (drop (f m.stations) ys ≡ drop (f k.stations) xs)
-written on f k xs i y w o {j} {m} {ys} h at noted items law =
-    let there = items ∙ ap (λ j. set xs j y) at in (
-      ap (λ m. on m ys) noted ∙ ap (on (with_reader k w o)) there ∙ law,
-      ap (λ m. drop (f m.stations) ys) noted ∙ ap (drop (f k.stations)) there ∙ drop-set-lt (f k.stations) xs i y h,
-    )
+-- what notes and lines mean, with a line y written at a place, once both are known by other names
+pub written : {R L : Type 0} (on : Noted → List L → Meaning R) (xs : List L) (y : L) {i j : ℕ} {k m : Noted} {z : Meaning R} → j ≡ i → m ≡ k → on k (set xs i y) ≡ z → on m (set xs j y) ≡ z
+written on xs y {j = j} {k = k} {z = z} at noted law = ap (λ m. on m (set xs j y)) noted ∙ ap (λ j. on k (set xs j y)) at ∙ law
+
+-- what notes and lines mean once the lines ws are written over the table xs
+pub refilled : {R L : Type 0} (on : Noted → List L → Meaning R) (xs : List L) {l : ℕ} {ws : List L} {k m : Noted} {z : Meaning R} → l ≡ length xs → length ws ≡ length xs → m ≡ k → on k ws ≡ z → on m (take l (ws ++ drop (length ws) xs)) ≡ z
+refilled on xs {l} {ws} long same noted law = ap (on _) whole ∙ ap (λ k. on k ws) noted ∙ law
+  where
+    whole : take l (ws ++ drop (length ws) xs) ≡ ws
+    whole = grind (arith, common_steps)
+
+-- a bank of n stations that need f n lines, made over the lines xs, with the notes k
+pub made_over : {R L : Type 0} (n : ℕ) (f : ℕ → ℕ) (xs : List L) (x : R) (k : Noted) (m : Meaning R) (ys : List L) → Ok k ≡ noted_new n → f n ≤ length xs → m ≡ filling k.stations x → ys ≡ spare (f k.stations) xs → Ok (m, ys) ≡ making n (f n) xs x
+made_over {R} {L} n f xs x k m ys new enough means rest = go (inside 16 n) new
+  where
+    go : (b : Bool) → Ok k ≡ cond b (Ok (fresh n)) (Err StationCount) → ◌≡◌ {A = Made R L} (Ok (m, ys)) (cond b (cond (leb (f n) (length xs)) (Ok (filling n x, spare (f n) xs)) (Err (TableSize, xs))) (Err (StationCount, xs)))
+    go true e =
+        let same : k ≡ fresh n = cc in
+        ap (λ m. Ok (m, ys)) (means ∙ ap (λ k. filling k.stations x) same)
+        ∙ ap (λ ys. Ok (filling n x, ys)) (rest ∙ ap (λ k. spare (f k.stations) xs) same)
+        ∙ sym (cond-true (leb (f n) (length xs)) _ _ (le-leb (f n) (length xs) enough))
+    go false e = let z : ◌≡◌ {A = ℕ} 0 1 = cc in absurd (omega arith)

@@ -1,6 +1,7 @@
 -- Lemmas on a bank's notes. Assumes nothing.
 use Rattle.std.proofs.Common.{◌≡◌, ℕ, zero, suc, ◌-◌, ◌<◌, ◌≤◌, Bool, true, false, cond, ◌&&◌, eqb, leb, ◌⊎◌, List, [], ◌∷◌, length, get_or, set, replicate, Some, None, Option, sym, refl, ap, ◌∙◌, inl, inr, ⊎_elim, arith, get_or-set_other, get_or-set_same}
 use Rattle.banks.proofs.Shared.{cond_map, cond_same, inside_bounds}
+use Rattle.std.proofs.Math.Bool.{and-true}
 use Rattle.std.proofs.lemmas.Bool.{le-leb, and_from, cond_both, cond-true, cond-false, eqb-true, eqb-false}
 use Rattle.banks.specs.Meanings.{inside, known}
 use Rattle.table_banks.specs.Cells.{cell}
@@ -15,20 +16,16 @@ use Rattle.banks.specs.declared.bank.Mark.TheVariants.{Up}
 pub same_noted : (a b : Noted) → a.stations ≡ b.stations → ((w : ℕ) → a.reader w ≡ b.reader w) → ((w r : ℕ) → a.up w r ≡ b.up w r) → a ≡ b
 same_noted a b p q s = λ i. record { stations = p i; reader = λ w. q w i; up = λ w r. s w r i }
 
-and_true : (b : Bool) → (b && true) ≡ b
-and_true true = refl
-and_true false = refl
-
-getD_alike : {X : Type 0} (n i : ℕ) (x : X) → get_or (replicate n x) i x ≡ x
-getD_alike zero i x = refl
-getD_alike (suc n) zero x = refl
-getD_alike (suc n) (suc i) x = getD_alike n i x
+get_or_alike : {X : Type 0} (n i : ℕ) (x : X) → get_or (replicate n x) i x ≡ x
+get_or_alike zero i x = refl
+get_or_alike (suc n) zero x = refl
+get_or_alike (suc n) (suc i) x = get_or_alike n i x
 
 pub fresh_noting : (n : ℕ) → noting n (replicate 16 None) (replicate 256 Up) ≡ fresh n
 fresh_noting n =
     same_noted (noting n (replicate 16 None) (replicate 256 Up)) (fresh n) refl
-    (λ w. ap (λ o. cond (inside n w) o None) (getD_alike 16 (w - 1) None) ∙ cond_same (inside n w) None)
-    (λ w r. ap (λ k. known n w r && is_up k) (getD_alike 256 (cell 16 w r) Up) ∙ and_true (known n w r))
+    (λ w. ap (λ o. cond (inside n w) o None) (get_or_alike 16 (w - 1) None) ∙ cond_same (inside n w) None)
+    (λ w r. ap (λ k. known n w r && is_up k) (get_or_alike 256 (cell 16 w r) Up) ∙ and-true (known n w r))
 
 -- a set list holds the new element or what it held
 set_cases : {X : Type 0} (xs : List X) (k i : ℕ) (v d : X) → (get_or (set xs k v) i d ≡ v) ⊎ (get_or (set xs k v) i d ≡ get_or xs i d)

@@ -1,14 +1,14 @@
 -- Lemmas on post banks. Assumes nothing.
-use Rattle.std.proofs.Common.{◌≡◌, ℕ, ◌<◌, ◌≤◌, true, cond, eqb, List, ◌++◌, length, drop, set, replicate, Some, None, refl, ◌∙◌, arith}
+use Rattle.std.proofs.Common.{◌≡◌, ℕ, ◌<◌, ◌≤◌, true, cond, eqb, List, ◌++◌, length, drop, set, replicate, Some, None, vec_items, refl, ◌∙◌, arith}
 use Rattle.banks.proofs.Shared.{inside_bounds}
 use Rattle.std.specs.List.{slice_get}
 use Rattle.std.proofs.lemmas.Bool.{cond-true, cond-false, ne_eqb, eq-eqb, and_parts}
 use Rattle.banks.specs.Meanings.{inside, known, started, finished}
 use Rattle.table_banks.specs.Cells.{cell}
 use Rattle.table_banks.specs.Notes.{Noted, seen, fresh, with_reader}
-use Rattle.table_banks.specs.Bottoms.{filling}
-use Rattle.table_banks.specs.Posts.{outgoing, post_needs, on_post, post_meaning, post_lines, post_spare, cell_record, outgoing_record}
-use Rattle.table_banks.specs.declared.post.Post.{Post}
+use Rattle.table_banks.specs.Bottoms.{filling, meant}
+use Rattle.table_banks.specs.Posts.{outgoing, post_needs, on_post, post_held, cell_record, outgoing_record}
+use Rattle.table_banks.specs.declared.post.PostTable.{PostTable}
 use Rattle.table_banks.proofs.Placing.{known_bounds, cell_within, nth_cell, nth_set}
 use Rattle.table_banks.proofs.Noting.{noted_home}
 use Rattle.table_banks.proofs.Tables.{front_line}
@@ -17,10 +17,10 @@ use Rattle.table_banks.proofs.Bottoms.{Homes, fresh_bottom, bottom_started, bott
 cell_needed : (n w r : ℕ) → known n w r ≡ true → cell n w r < post_needs n
 cell_needed n w r h = let a = cell_within n w r h in omega arith
 
-pub post_filled : {R : Type 0} (n : ℕ) (x : R) (xs ys : List R) → xs ≡ replicate (post_needs n) x ++ ys → on_post (fresh n) xs ≡ filling n x
-post_filled n x xs ys front =
+pub post_filled : {R : Type 0} (n : ℕ) (x : R) (ws xs : List R) → xs ≡ replicate (post_needs n) x ++ drop (post_needs n) ws → on_post (fresh n) xs ≡ filling n x
+post_filled n x ws xs front =
     fresh_bottom (cell_record xs n) (outgoing_record xs n) n x
-    (λ w r h. front_line (post_needs n) x xs ys front (cell n w r) (cell_needed n w r h))
+    (λ w r h. front_line (post_needs n) x xs (drop (post_needs n) ws) front (cell n w r) (cell_needed n w r h))
 
 outgoing_below : (n w : ℕ) → inside n w ≡ true → outgoing n w < post_needs n
 outgoing_below n w h = let b = inside_bounds n w h in omega arith
@@ -71,17 +71,13 @@ module _ {R : Type 0} (k : Noted) (homes : Homes k) (xs : List R) (room : post_n
       bottom_finished k homes (cell_record xs n) (outgoing_record xs n) (cell_record (set xs (cell n w r) x) n) (outgoing_record (set xs (cell n w r) x) n) w (λ v q g apart. outgoing_beside n xs room w r x home v) r x home
       (nth_cell n xs (omega arith) w r x home)
 
-post_room : {R : Type 0} (b : Post R) → post_needs b.notes.count ≤ length (post_lines b)
-post_room b = omega (arith, b.room, b.lines.ok.0)
+post_room : {R : Type 0} (t : PostTable R) → post_needs t.notes.count ≤ length (vec_items t.lines)
+post_room t = omega (arith, t.room, t.lines.ok.0)
 
--- a post b, with the line x written at a place i, so that its lines are ys and its notes m
-module _ {R : Type 0} (b : Post R) (w r : ℕ) (home : known b.notes.count w r ≡ true) (x : R) {i : ℕ} {m : Noted} {ys : List R} where
-  pub post_put_open : i ≡ outgoing b.notes.count w → m ≡ with_reader (seen b.notes) w (Some r) → ys ≡ set (post_lines b) i x → (on_post m ys ≡ started (post_meaning b) w r x) × (drop (post_needs m.stations) ys ≡ post_spare b)
-  post_put_open at noted items =
-      written on_post post_needs (seen b.notes) (post_lines b) (outgoing b.notes.count w) x w (Some r) (outgoing_below b.notes.count w (writer_inside b.notes.count w r home)) at noted items
-      (post_started (seen b.notes) (noted_home b.notes) (post_lines b) (post_room b) w r home x)
+-- the table t of a post, once the line at the place i is written for cell (w, r) and its notes are m
+module _ {R : Type 0} (t : PostTable R) (w r : ℕ) (home : known t.notes.count w r ≡ true) (x : R) {i : ℕ} {m : Noted} where
+  pub post_put_open : i ≡ outgoing t.notes.count w → m ≡ with_reader (seen t.notes) w (Some r) → on_post m (set (vec_items t.lines) i x) ≡ started (meant (post_held t)) w r x
+  post_put_open at noted = written on_post (vec_items t.lines) _ at noted (post_started (seen t.notes) (noted_home t.notes) (vec_items t.lines) (post_room t) w r home x)
 
-  pub post_settle : i ≡ cell b.notes.count w r → m ≡ with_reader (seen b.notes) w None → ys ≡ set (post_lines b) i x → (on_post m ys ≡ finished (post_meaning b) w r x) × (drop (post_needs m.stations) ys ≡ post_spare b)
-  post_settle at noted items =
-      written on_post post_needs (seen b.notes) (post_lines b) (cell b.notes.count w r) x w None (cell_needed b.notes.count w r home) at noted items
-      (post_finished (seen b.notes) (noted_home b.notes) (post_lines b) (post_room b) w r home x)
+  pub post_settle : i ≡ cell t.notes.count w r → m ≡ with_reader (seen t.notes) w None → on_post m (set (vec_items t.lines) i x) ≡ finished (meant (post_held t)) w r x
+  post_settle at noted = written on_post (vec_items t.lines) _ at noted (post_finished (seen t.notes) (noted_home t.notes) (vec_items t.lines) (post_room t) w r home x)

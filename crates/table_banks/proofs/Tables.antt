@@ -1,7 +1,7 @@
 -- Lemmas on tables. Assumes nothing.
 use Rattle.std.proofs.Common.{◌≡◌, ℕ, zero, suc, ◌+◌, ◌<◌, List, [], ◌∷◌, ◌++◌, length, get_or, drop, set, replicate, Some, sym, refl, ap, ◌∙◌, append_assoc, arith}
 use lib.ListN.{length-replicate}
-use Rattle.std.proofs.lemmas.List.{drop_more, set_at, replicate_more, drop_at}
+use Rattle.std.proofs.lemmas.List.{drop_more, set_at, replicate_more}
 use Rattle.std.specs.List.{slice_get}
 
 -- one line more from the first on
@@ -18,9 +18,5 @@ nth_replicate (suc n) zero x ys h = refl
 nth_replicate (suc n) (suc i) x ys h = nth_replicate n i x ys (omega arith)
 
 -- a table whose first m lines hold x
-module _ {X : Type 0} (m : ℕ) (x : X) (xs ys : List X) (front : xs ≡ replicate m x ++ ys) where
-  pub front_line : (i : ℕ) → i < m → slice_get xs i ≡ Some x
-  front_line i h = ap (λ l. slice_get l i) front ∙ nth_replicate m i x ys h
-
-  pub behind_front : drop m xs ≡ ys
-  behind_front = ap (drop m) front ∙ drop_at (replicate m x) ys m (length-replicate m x)
+pub front_line : {X : Type 0} (m : ℕ) (x : X) (xs ys : List X) → xs ≡ replicate m x ++ ys → (i : ℕ) → i < m → slice_get xs i ≡ Some x
+front_line m x xs ys front i h = ap (λ l. slice_get l i) front ∙ nth_replicate m i x ys h

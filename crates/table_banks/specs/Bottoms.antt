@@ -1,8 +1,11 @@
 -- What a bank at the bottom of a pile means, from its notes and where its records stand. Assumes nothing.
 --     bottom k s o        notes k, settled records s and open records o, each by writer and reader
+--     Held R              what a table holds: these three
+--     meant h             what a bank over a table that holds h means
 --     filling n x         a bank of n stations made filled with x
 --     spare n xs          the lines of a table behind the first n
 --     Made R L            what making a bank answers: the meaning and the spare lines, or the refusal and the table
+--     making n f xs x     the same of n stations that need f lines, over the lines xs, filled with x
 use Rattle.std.specs.Prelude.{ℕ, cond, List, length, drop, Some, None, Ok, Err, Option, Result, nat_le}
 use Rattle.std.specs.Option.{option_map}
 use Rattle.policy.specs.declared.refusal.Refusal.{Refusal}
@@ -23,6 +26,14 @@ bottom k s o =
       reachable = k.up;
       place = λ w r. (0, w, r);
     }
+
+pub record Held (R : Type 0) : Type 0 where
+  pub notes : Noted
+  pub settled : ℕ → ℕ → Option R
+  pub opened : ℕ → ℕ → Option R
+
+abbrev pub meant : {R : Type 0} → Held R → Meaning R
+meant h = bottom h.notes h.settled h.opened
 
 abbrev pub filling : {R : Type 0} → ℕ → R → Meaning R
 filling n x =

@@ -1,3 +1,4 @@
+pub mod Banks
 pub mod Boards
 pub mod Bottoms
 pub mod Cells

@@ -1,6 +1,7 @@
 -- What a bank at the bottom notes beside its records, and what each call on that answers and leaves. Assumes nothing.
 --     Noted                           the station count, every writer's reader, every cell's reachability
 --     seen k                          what the notes k say
+--     HasCell k w r                   cell (w, r) is one of the bank whose notes are k
 --     Homed n w o                     the reader o, where there is one, has a cell of the writer w
 --     fresh n                         nothing is open, all cells of n stations are reachable
 --     noted_new n, seen_new r         what making notes answers: refused by 1
@@ -37,6 +38,9 @@ noting n readers marks =
 
 abbrev pub seen : Notes → Noted
 seen k = noting k.count k.readers k.marks
+
+abbrev pub HasCell : Noted → ℕ → ℕ → Type 0
+HasCell k w r = known k.stations w r ≡ true
 
 abbrev pub Homed : ℕ → ℕ → Option ℕ → Type 0
 Homed n w None = Unit {0}

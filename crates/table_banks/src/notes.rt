@@ -6,6 +6,7 @@ use banks::bank::Mark;
 mod calls;
 
 // The station count; for every writer the reader of its open record; for every cell its mark, 16 cells to a writer.
+// The lists are arrays for 16 stations, since banks allocate nothing.
 #[derive(Drop)]
 pub struct Notes {
     count: u8,

@@ -21,7 +21,6 @@ use Rattle.machine.specs.declared.line.Kind.TheVariants.{Write, Read}
 use Rattle.machine.specs.declared.line.Line.{Line}
 use Rattle.machine.specs.declared.line.LineState.{LineState}
 use Rattle.machine.specs.declared.line.LineState.TheVariants.{Spreading, Done}
-use Rattle.machine.specs.declared.row.Stepped.TheVariants.{Going}
 use Rattle.std.proofs.Common.{leb→le}
 
 abbrev Run : Type 0
@@ -110,13 +109,13 @@ pub record Worked : Type 0 where
   -- one station: from the greatest count a write is refused as spent
   pub spent : (c : Bool) → notes (run 1 4294967295 (first_step c)) ≡ Some (write_note 1 9 (Ok 1) ∷ step_note 1 (Err Spent) ∷ [])
   -- from the last but one it is stamped
-  pub stamped : (c : Bool) → notes (run 1 4294967294 (first_step c)) ≡ Some (write_note 1 9 (Ok 1) ∷ step_note 1 (Ok Going) ∷ [])
+  pub stamped : (c : Bool) → notes (run 1 4294967294 (first_step c)) ≡ Some (write_note 1 9 (Ok 1) ∷ step_note 1 (Ok None) ∷ [])
   pub stamped_line : (c : Bool) → held (run 1 4294967294 (first_step c)) 1 ≡ Some (4294967295, 1, 9, Spreading)
   -- two stations: the read's line on a board, and on a post
   pub board_read : held (run 2 0 (read_of_open true)) 2 ≡ Some (1, 1, 9, Spreading)
   pub post_read : held (run 2 0 (read_of_open false)) 2 ≡ Some (0, 0, 7, Spreading)
   -- a lost link
-  pub lost_link : (c : Bool) → notes (run 2 0 (down_and_up c)) ≡ Some (mark_note 1 2 false (Ok tt) ∷ read_note 2 (Ok 1) ∷ step_note 2 (Err (Unreachable (0, 1, 2))) ∷ mark_note 1 2 true (Ok tt) ∷ step_note 2 (Ok Going) ∷ [])
+  pub lost_link : (c : Bool) → notes (run 2 0 (down_and_up c)) ≡ Some (mark_note 1 2 false (Ok tt) ∷ read_note 2 (Ok 1) ∷ step_note 2 (Err (Unreachable (0, 1, 2))) ∷ mark_note 1 2 true (Ok tt) ∷ step_note 2 (Ok None) ∷ [])
   -- three stations that overlap: what the law speaks of in that run
   pub first_write : told 3 0 overlapping 1 ≡ Some (Write, 1, 6, Some 16, 1, 1, 9)
   pub second_write : told 3 0 overlapping 2 ≡ Some (Write, 2, 15, Some 24, 2, 2, 11)

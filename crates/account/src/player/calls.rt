@@ -1,31 +1,20 @@
 // Making a player, and asking it for the account piece by piece.
-ghost use Rattle.std.specs.Prelude.{◌≡◌, ◌<◌, true, List, [], ◌++◌, IfOk, None, MatchOption};
+ghost use Rattle.std.specs.Prelude.{◌≡◌, ◌<◌, true, List, ◌++◌, IfOk, None};
+ghost use Rattle.commands.specs.declared.command.Command.{Command};
 ghost use Rattle.account.specs.Laws.{Begins, Lawful, game_after};
 ghost use Rattle.account.specs.Listings.{ListsBack};
 ghost use Rattle.account.specs.Pages.{shown};
-ghost use Rattle.account.specs.Players.{rest, left, some, Taken};
+ghost use Rattle.account.specs.Players.{rest, left, some};
 ghost use Rattle.account.specs.Texts.{account};
 
 use crate::page::Page;
 use crate::player::Player;
-use crate::stage::Stage;
-use commands::command::Command;
-use commands::decode::decode;
-use policy::refusal::Refusal;
+use crate::turn::{kept, turn};
+use commands::file::Commands;
 use std::alloc::{AllocError, Global};
 
-// The next command, or the refusal that ends the reading, and what stands behind it; none at the end.
-fn take(input: &[u8]) -> Option<(Result<Command, Refusal>, &[u8])>
-    ensures { MatchOption result (input.now ≡ []) (λ p. Taken input.now p.0 p.1.now) }
-{
-    match decode(input) {
-        Ok(None) => None,
-        Ok(Some((command, behind))) => Some((Ok(command), behind)),
-        Err(refusal) => Some((Err(refusal), &[])),
-    }
-}
-
 impl<'a> Player<'a> {
+    #[tactic(auto, using(crate::proofs::Pieces::same_text))]
     pub fn new(input: &'a [u8]) -> Player<'a>
         ensures text { rest result ≡ account input.now }
         ensures begins { Begins input.now }
@@ -33,34 +22,30 @@ impl<'a> Player<'a> {
         ensures listed { ListsBack }
     {
         Player {
-            input,
+            commands: Commands::new(input),
             number: 1,
-            stage: Stage::Unmade,
+            game: None,
         }
     }
 
     // Puts the next piece of the account into the page, the lines of whole commands, and answers whether there was one.
-    // For want of memory nothing is lost: what the page then holds is told, and all else is still to come.
+    // For want of memory nothing is lost: what the page then holds is told, and all else is still to come, since a copy of the iterator has moved on.
     pub fn next(&mut self, heap: Global, page: &mut Page) -> Result<bool, AllocError>
         ensures text { shown page.new ++ rest self.new ≡ rest self.old }
         ensures answer { IfOk result (λ more. more ≡ some (rest self.old)) }
         ensures goes { IfOk result (λ more. more ≡ true → left self.new < left self.old) }
     {
         page.clear();
-        let more = !self.input.is_empty();
-        let mut input = self.input;
-        let mut number = self.number;
         while page.has_room() {
-            let Some((read, behind)) = take(input) else {
+            let mut ahead = self.commands;
+            let Some(read) = ahead.next() else {
                 break;
             };
-            let outcome = self.stage.play(heap, read)?;
-            page.put(number, outcome, self.stage.used(), self.stage.lines());
-            number += 1;
-            input = behind;
-            self.number = number;
-            self.input = input;
+            let answer = kept(turn(heap, &mut self.game, read))?;
+            page.put(self.number, answer, &self.game);
+            self.commands = ahead;
+            self.number += 1;
         }
-        Ok(more)
+        Ok(!page.text().is_empty())
     }
 }

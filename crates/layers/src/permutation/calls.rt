@@ -1,53 +1,27 @@
 // Making a permutation of a list, and looking into it.
 ghost use Rattle.std.specs.Prelude.{◌≡◌, ℕ, ◌+◌, ◌-◌, ◌<◌, ◌≤◌, length, if◌then◌else◌, Some, None, MatchOption, ◌≢◌, slice_index};
 ghost use Rattle.layers.specs.Numberings.{numbering};
-ghost use Rattle.layers.specs.Permutations.{look, listed, Listed};
+ghost use Rattle.layers.specs.Permutations.{look, listed, Stands, Holds, Pairs};
 
 use crate::permutation::Permutation;
 
-// The position of a number among the first places of a list, from 1. None if it does not stand there.
-fn position(list: &[u8], size: u8, number: u8) -> Option<u8>
-    requires { size ≤ length list.now }
-    ensures { MatchOption result ((i : ℕ) → i < size → slice_index list.now i ≢ number) (λ p. (1 ≤ p) × (p ≤ size) × (slice_index list.now (p - 1) ≡ number)) }
+// The position of a number in a list, from 1. None if it does not stand there.
+fn position(list: &[u8], number: u8) -> Option<u8>
+    requires { length list.now ≤ 16 }
+    ensures { MatchOption result ((i : ℕ) → i < length list.now → slice_index list.now i ≢ number) (Stands (length list.now) list.now number) }
 {
-    for i in 0..size {
-        if list[i as usize] == number {
-            return Some(i + 1);
-        }
-    }
-    None
+    list.iter().position(|x| *x == number).map(|i| i as u8 + 1)
 }
 
-// The position of every number from 1 to a size. None if one is missing.
-fn positions(list: &[u8], size: u8) -> Option<[u8; 16]>
-    requires { (size ≤ length list.now) × (size ≤ 16) }
-    ensures { MatchOption result (Listed size list.now → ⊥) (λ ps. (v : ℕ) → v < size → (1 ≤ slice_index ps v) × (slice_index ps v ≤ size) × (slice_index list.now (slice_index ps v - 1) ≡ v + 1)) }
+// The position of every number from 1 to the list's length. None if one does not stand there.
+fn positions(list: &[u8]) -> Option<[u8; 16]>
+    requires { length list.now ≤ 16 }
+    ensures { MatchOption result (Holds (length list.now) list.now → ⊥) (λ ps. Pairs (length list.now) ps list.now) }
 {
     let mut found = [0; 16];
-    for v in 0..size {
-        match position(list, size, v + 1) {
-            Some(p) => found[v as usize] = p,
-            None => return None,
-        }
-    }
-    Some(found)
-}
-
-// The number at every position, with the numbers' positions at hand. None if the list does not have the numbers from 1 to a size, each once.
-fn numbers(list: &[u8], size: u8, positions: &[u8; 16]) -> Option<[u8; 16]>
-    requires { (size ≤ length list.now) × ((size ≤ 16) × (((v : ℕ) → v < size → (1 ≤ slice_index positions.now v) × (slice_index positions.now v ≤ size) × (slice_index list.now (slice_index positions.now v - 1) ≡ v + 1)))) }
-    ensures { MatchOption result (Listed size list.now → ⊥) (λ ns. (i : ℕ) → i < size → (slice_index ns i ≡ slice_index list.now i) × (1 ≤ slice_index ns i) × (slice_index ns i ≤ size) × (slice_index positions.now (slice_index ns i - 1) ≡ i + 1)) }
-{
-    let mut found = [0; 16];
-    for i in 0..size {
-        let number = list[i as usize];
-        if number == 0 || number > size {
-            return None;
-        }
-        if positions[number as usize - 1] != i + 1 {
-            return None;
-        }
-        found[i as usize] = number;
+    let places = &mut found[..list.len()];
+    for (v, place) in places.iter_mut().enumerate() {
+        *place = position(list, v as u8 + 1)?;
     }
     Some(found)
 }
@@ -58,15 +32,14 @@ impl Permutation {
         requires { size ≤ 16 }
         ensures { numbering result ≡ (if listed size list.now then Some (size, look size list.now) else None) }
     {
-        if list.len() < size as usize {
-            return None;
-        }
-        let positions = positions(list, size)?;
-        let numbers = numbers(list, size, &positions)?;
+        let list = list.get(..size as usize)?;
+        let there = positions(list)?;
+        // The positions of the positions are the list again.
+        let back = positions(&there[..size as usize])?;
         Some(Permutation {
             size,
-            numbers,
-            positions,
+            numbers: back,
+            positions: there,
         })
     }
 
@@ -80,10 +53,11 @@ impl Permutation {
     pub fn number(&self, position: u8) -> u8
         ensures { result ≡ look self.now.size self.now.numbers position }
     {
-        if position == 0 || position > self.size {
-            return position;
+        if (1..=self.size).contains(&position) {
+            self.numbers[position as usize - 1]
+        } else {
+            position
         }
-        self.numbers[position as usize - 1]
     }
 
     // The way back.

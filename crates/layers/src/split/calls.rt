@@ -1,13 +1,8 @@
 // Making a split, and its calls as a bank.
-ghost use Rattle.std.specs.Prelude.{◌≡◌, true, false, if◌then◌else◌, Result};
-ghost use Rattle.policy.specs.declared.refusal.Refusal.{Refusal};
-ghost use Rattle.banks.specs.Meanings.{Meaning};
-ghost use Rattle.layers.specs.Changes.{changed, writer_in};
-ghost use Rattle.layers.specs.Layers.{in_first, split_meaning};
+ghost use Rattle.std.specs.Prelude.{◌≡◌, if◌then◌else◌};
 ghost use Rattle.layers.specs.Splits.{split_of, first_of, split_made};
 ghost use Rattle.std.proofs.Common.{rules};
 
-use crate::change::{Change, change_bank};
 use crate::layer::{deepen_answer, deepen_located};
 use crate::split::Split;
 use banks::bank::{Bank, Mark};
@@ -46,41 +41,22 @@ impl<B, C> Split<B, C> {
         } = self;
         (first, second)
     }
-}
 
-// Whether a writer's cells lie in the first bank.
-fn lies_first<R: Copy, B: Bank<R>, C: Bank<R>>(split: &Split<B, C>, writer: u8) -> bool
-    ensures { result ≡ in_first split.now.point (B.Bank.meaning split.now.first) (C.Bank.meaning split.now.second) writer }
-{
-    writer <= split.point || split.first.stations() != split.second.stations()
-}
-
-// A change of a writer in the first bank.
-fn change_first<R: Copy, B: Bank<R>, C: Bank<R>>(
-    split: &mut Split<B, C>,
-    change: Change<R>,
-) -> Result<(), Refusal>
-    requires { first_of B.Bank.meaning C.Bank.meaning split.old (writer_in change) ≡ true }
-    ensures { ◌≡◌ {A = Result (Unit {0}) Refusal × Meaning R} (result, split_of B.Bank.meaning C.Bank.meaning split.new) (changed change (split_of B.Bank.meaning C.Bank.meaning split.old)) }
-{
-    deepen_answer(change_bank(&mut split.first, change))
-}
-
-// A change of a writer in the second bank.
-fn change_second<R: Copy, B: Bank<R>, C: Bank<R>>(
-    split: &mut Split<B, C>,
-    change: Change<R>,
-) -> Result<(), Refusal>
-    requires { first_of B.Bank.meaning C.Bank.meaning split.old (writer_in change) ≡ false }
-    ensures { ◌≡◌ {A = Result (Unit {0}) Refusal × Meaning R} (result, split_of B.Bank.meaning C.Bank.meaning split.new) (changed change (split_of B.Bank.meaning C.Bank.meaning split.old)) }
-{
-    deepen_answer(change_bank(&mut split.second, change))
+    // Whether a writer's cells lie in the first bank. The banks are of two types, so each call below is written once for each.
+    fn lies_first<R: Copy>(&self, writer: u8) -> bool
+    where
+        B: Bank<R>,
+        C: Bank<R>,
+        ensures { result ≡ first_of B.Bank.meaning C.Bank.meaning self.now writer }
+    {
+        writer <= self.point || self.first.stations() != self.second.stations()
+    }
 }
 
 impl<R: Copy, B: Bank<R>, C: Bank<R>> Bank<R> for Split<B, C> {
-    ghost meaning = { λ s. split_meaning s.point (B.Bank.meaning s.first) (C.Bank.meaning s.second) };
+    ghost meaning = { split_of B.Bank.meaning C.Bank.meaning };
 
-    ghost chooses = { λ s w r. (if in_first s.point (B.Bank.meaning s.first) (C.Bank.meaning s.second) w then B.Bank.chooses s.first w r else C.Bank.chooses s.second w r) };
+    ghost chooses = { λ s w r. (if first_of B.Bank.meaning C.Bank.meaning s w then B.Bank.chooses s.first w r else C.Bank.chooses s.second w r) };
 
     ghost stationed = { Prim.search rules };
 
@@ -94,7 +70,7 @@ impl<R: Copy, B: Bank<R>, C: Bank<R>> Bank<R> for Split<B, C> {
     }
 
     fn read(&mut self, writer: u8, reader: u8) -> Result<R, Refusal> {
-        if lies_first::<R, B, C>(self, writer) {
+        if self.lies_first::<R>(writer) {
             deepen_answer(self.first.read(writer, reader))
         } else {
             deepen_answer(self.second.read(writer, reader))
@@ -102,31 +78,31 @@ impl<R: Copy, B: Bank<R>, C: Bank<R>> Bank<R> for Split<B, C> {
     }
 
     fn start(&mut self, writer: u8, reader: u8, x: R) -> Result<(), Refusal> {
-        if lies_first::<R, B, C>(self, writer) {
-            change_first(self, Change::Start(writer, reader, x))
+        if self.lies_first::<R>(writer) {
+            deepen_answer(self.first.start(writer, reader, x))
         } else {
-            change_second(self, Change::Start(writer, reader, x))
+            deepen_answer(self.second.start(writer, reader, x))
         }
     }
 
     fn finish(&mut self, writer: u8) -> Result<(), Refusal> {
-        if lies_first::<R, B, C>(self, writer) {
-            change_first::<R, B, C>(self, Change::Finish(writer))
+        if self.lies_first::<R>(writer) {
+            deepen_answer(self.first.finish(writer))
         } else {
-            change_second::<R, B, C>(self, Change::Finish(writer))
+            deepen_answer(self.second.finish(writer))
         }
     }
 
     fn mark(&mut self, writer: u8, reader: u8, mark: Mark) -> Result<(), Refusal> {
-        if lies_first::<R, B, C>(self, writer) {
-            change_first::<R, B, C>(self, Change::Mark(writer, reader, mark))
+        if self.lies_first::<R>(writer) {
+            deepen_answer(self.first.mark(writer, reader, mark))
         } else {
-            change_second::<R, B, C>(self, Change::Mark(writer, reader, mark))
+            deepen_answer(self.second.mark(writer, reader, mark))
         }
     }
 
     fn place(&self, writer: u8, reader: u8) -> Result<Place, Refusal> {
-        if lies_first::<R, B, C>(self, writer) {
+        if self.lies_first::<R>(writer) {
             deepen_located(self.first.place(writer, reader))
         } else {
             deepen_located(self.second.place(writer, reader))

@@ -28,15 +28,13 @@ impl<S: Stamp, V: Copy> Register<S, V> {
         ensures call { ◌≡◌ {A = Result (Machine S V) Refusal × Meaning (Record S V)} (seen_made result (B.Bank.meaning bank.new) journal.now.lines.now, B.Bank.meaning bank.new) (making S.Stamp.make (B.Bank.meaning bank.old) stations count value journal.now.lines.now size) }
         ensures law { LawfulMade S.Stamp.make result (B.Bank.meaning bank.new) journal.now.lines.now }
     {
-        if stations < 1 || stations > 16 {
+        if !(1..=16).contains(&stations) {
             return Err(Refusal::StationCount);
         }
         if bank.stations() != stations {
             return Err(Refusal::CountsDiffer);
         }
-        let Some(tag) = S::first(count) else {
-            return Err(Refusal::StartingCount);
-        };
+        let tag = S::first(count).ok_or(Refusal::StartingCount)?;
         if size > LINES {
             return Err(Refusal::JournalSize);
         }

@@ -23,7 +23,7 @@ impl NumberStamp {
         NumberStamp::from_number(count * 32 + u32::from(owner))
     }
 
-    // The stamp with this number. None if the owner in it would be above 16.
+    // The stamp with this number. None, and no error of a TryFrom, if the owner in it would be above 16: there is nothing more to say.
     pub fn from_number(number: u32) -> Option<Self>
         ensures { result ≡ numbered number }
     {
@@ -40,10 +40,7 @@ impl Stamp for NumberStamp {
     ghost laws = { keyed_laws number_keyed };
 
     fn first(count: u64) -> Option<Self> {
-        match u32::try_from(count) {
-            Ok(count) => NumberStamp::new(count, 0),
-            Err(_) => None,
-        }
+        NumberStamp::new(u32::try_from(count).ok()?, 0)
     }
 
     fn next(self, station: u8) -> Option<Self> {
@@ -51,7 +48,7 @@ impl Stamp for NumberStamp {
     }
 
     fn smaller(&self, other: &Self) -> bool {
-        self.number < other.number
+        self < other
     }
 
     fn count(&self) -> u64 {

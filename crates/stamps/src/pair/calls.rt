@@ -27,10 +27,7 @@ impl Stamp for PairStamp {
     ghost laws = { keyed_laws pair_keyed };
 
     fn first(count: u64) -> Option<Self> {
-        match u32::try_from(count) {
-            Ok(count) => PairStamp::new(count, 0),
-            Err(_) => None,
-        }
+        PairStamp::new(u32::try_from(count).ok()?, 0)
     }
 
     fn next(self, station: u8) -> Option<Self> {
@@ -38,7 +35,7 @@ impl Stamp for PairStamp {
     }
 
     fn smaller(&self, other: &Self) -> bool {
-        self.count < other.count || self.count == other.count && self.owner < other.owner
+        self < other
     }
 
     fn count(&self) -> u64 {

@@ -1,8 +1,8 @@
 // The calls on a bank's notes.
 ghost use Rattle.std.specs.Prelude.{◌≡◌, ◌*◌, ◌<◌, true};
-ghost use Rattle.banks.specs.Meanings.{inside, known};
+ghost use Rattle.banks.specs.Meanings.{inside};
 ghost use Rattle.table_banks.specs.Cells.{cell};
-ghost use Rattle.table_banks.specs.Notes.{Homed, seen, fresh, noted_place, reached, with_reader, with_mark, noted_new, seen_new};
+ghost use Rattle.table_banks.specs.Notes.{HasCell, Homed, seen, fresh, noted_place, reached, with_reader, with_mark, noted_new, seen_new};
 ghost use Rattle.banks.specs.Marks.{is_up};
 
 use crate::cell::place_of;
@@ -15,7 +15,7 @@ impl Notes {
     pub fn new(stations: u8) -> Result<Notes, Refusal>
         ensures { seen_new result ≡ noted_new stations }
     {
-        if stations == 0 || stations > 16 {
+        if !(1..=16).contains(&stations) {
             return Err(Refusal::StationCount);
         }
         let readers = [None; 16];
@@ -47,7 +47,7 @@ impl Notes {
     pub fn has(&self, station: u8) -> bool
         ensures { result ≡ inside (seen self.now).stations station }
     {
-        station > 0 && station <= self.count
+        (1..=self.count).contains(&station)
     }
 
     // The place of a cell. Refused by 4.
@@ -62,7 +62,7 @@ impl Notes {
 
     // Where the line of a cell stands in a table that begins with the lines of all cells.
     pub fn cell_line(&self, writer: u8, reader: u8) -> usize
-        requires { known (seen self.now).stations writer reader ≡ true }
+        requires { HasCell (seen self.now) writer reader }
         ensures place { result ≡ cell (seen self.now).stations writer reader }
         ensures within { result < (seen self.now).stations * (seen self.now).stations }
     {
@@ -101,7 +101,7 @@ impl Notes {
 
     // Makes a cell reachable or not.
     pub fn note_mark(&mut self, writer: u8, reader: u8, mark: Mark)
-        requires { known (seen self.old).stations writer reader ≡ true }
+        requires { HasCell (seen self.old) writer reader }
         ensures { seen self.new ≡ with_mark (seen self.old) writer reader (is_up mark) }
     {
         let i = place_of(16, writer, reader);

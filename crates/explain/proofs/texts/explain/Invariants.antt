@@ -1,13 +1,14 @@
-use Rattle.std.proofs.Common.{◌≡◌, ◌+◌, ◌≤◌, ◌++◌, length, vec_items}
-use Rattle.commands.specs.Readings.{reading}
-use Rattle.explain.specs.Texts.{lines_from, explained}
+use Rattle.std.proofs.Common.{◌≡◌, ◌+◌, ◌^◌, ◌<◌, ◌++◌, length}
+use Rattle.std.specs.Iterator.Adapters.{zip_first, zip_second}
+use Rattle.std.specs.String.{string_bytes}
+use Rattle.commands.specs.Files.{unread}
+use Rattle.explain.specs.Texts.{explained}
+use Rattle.explain.proofs.Lines.{lines_of}
 use Rattle.explain.proofs.texts.explain.Given as goal
 
--- the lines so far and those of the bytes that are left make the text
-abbrev pub invariant-loop-out : goal.invariant-loop-out
-invariant-loop-out l =
-    (l.number + length l.rest ≤ length l.input + 1)
-    × (vec_items l.out ++ lines_from l.number (reading l.rest).commands (reading l.rest).stop ≡ explained l.input)
-
-abbrev pub decreases-loop-out : goal.decreases-loop-out
-decreases-loop-out l = length l.rest
+-- the lines so far and those of what is left make the text, and the numbers last for what is left
+abbrev pub invariant-loop-number : goal.invariant-loop-number
+invariant-loop-number l = record {
+  room : (zip_first l.number-iterator).start + length (unread (zip_second l.number-iterator)) < 2 ^ 64;
+  text : string_bytes l.out ++ lines_of (zip_first l.number-iterator).start (unread (zip_second l.number-iterator)) ≡ explained l.input;
+}

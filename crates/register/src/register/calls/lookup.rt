@@ -35,21 +35,15 @@ fn last_done<S: Copy, V: Copy>(
     ensures call { result ≡ last_of journal.now.lines.now station used }
     ensures highest { Highest journal.now.lines.now used station result }
 {
-    for before in (0..used).rev() {
-        if let Some(line) = journal.line(before + 1) {
-            if is_done_write(&line, station) {
-                return Some(before + 1);
-            }
-        }
-    }
-    None
+    (1..=used).rev().find(|number| {
+        journal
+            .line(*number)
+            .is_some_and(|line| is_done_write(&line, station))
+    })
 }
 
 fn is_done_write<S: Copy, V: Copy>(line: &Line<S, V>, station: u8) -> bool
     ensures { result ≡ done_write_of station line.now }
 {
-    match (line.kind, line.state) {
-        (Kind::Write, LineState::Done) => line.station == station,
-        _ => false,
-    }
+    line.kind == Kind::Write && line.state == LineState::Done && line.station == station
 }

@@ -1,9 +1,9 @@
 // Opening a write or a read.
-ghost use Rattle.std.specs.Prelude.{◌≡◌, ℕ, ◌<◌, List, Result};
+ghost use Rattle.std.specs.Prelude.{◌≡◌, ℕ, Result};
 ghost use Rattle.policy.specs.declared.refusal.Refusal.{Refusal};
 ghost use Rattle.banks.specs.Meanings.{Meaning};
 ghost use Rattle.banks.specs.declared.record.Record.{Record};
-ghost use Rattle.machine.specs.Machines.{Machine, fresh as fresh_line, open_line, open_write, open_read};
+ghost use Rattle.machine.specs.Machines.{Machine, open_line, open_write, open_read};
 ghost use Rattle.machine.specs.declared.line.Line.{Line};
 ghost use Rattle.stamps.specs.Makes.{Make};
 ghost use Rattle.register.specs.Reach.{Leads, Opens};
@@ -65,25 +65,19 @@ impl<S: Stamp, V: Copy> Register<S, V> {
             return Err(Refusal::JournalFull);
         }
         let number = self.used + 1;
-        let line = self.fresh(station, kind, value);
-        journal.put(number, line);
+        journal.put(
+            number,
+            Line {
+                kind,
+                station,
+                state: LineState::Collecting,
+                stamp: self.origin.tag,
+                value,
+                opened: self.moment + 1,
+                ended: 0,
+            },
+        );
         self.begin(station);
         Ok(number)
-    }
-
-    // The line of an operation as its open leaves it: collecting, with the starting stamp.
-    fn fresh(&self, station: u8, kind: Kind, value: V) -> Line<S, V>
-        requires { self.now.used < self.now.size }
-        ensures { (bank : Meaning (Record S V)) (lines : List (Line S V)) → result ≡ fresh_line (seen self.now bank lines) station kind value }
-    {
-        Line {
-            kind,
-            station,
-            state: LineState::Collecting,
-            stamp: self.origin.tag,
-            value,
-            opened: self.moment + 1,
-            ended: 0,
-        }
     }
 }

@@ -1,8 +1,13 @@
-use Rattle.std.proofs.Common.{refl}
 use Rattle.account.proofs.Lawful.{lawful}
 use Rattle.account.proofs.Listings.{lists_back}
 use Rattle.account.proofs.Prefixes.{begins}
 use Rattle.account.proofs.player.Player.new.Goals as goal
 
-pub returns : goal.returns
-returns c = record { text = refl; begins = begins c.args.input.now; lawful = lawful; listed = lists_back }
+pub returns-clause-begins : goal.returns-clause-begins
+returns-clause-begins c = begins c.args.input.now
+
+pub returns-clause-lawful : goal.returns-clause-lawful
+returns-clause-lawful c = lawful
+
+pub returns-clause-listed : goal.returns-clause-listed
+returns-clause-listed c = lists_back

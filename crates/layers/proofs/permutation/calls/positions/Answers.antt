@@ -1,13 +1,6 @@
-use Rattle.std.proofs.Common.{◌≡◌, ◌+◌, ◌-◌, ◌≤◌, get_or, arith}
-use Rattle.layers.proofs.Permuting.{set_more}
+use Rattle.std.proofs.Common.{arith}
 use Rattle.layers.proofs.permutation.calls.positions.Goals as goal
 
-pub returns-in-None : goal.returns-in-None
-returns-in-None c h =
-    let v = c.loop-v.v in
-    let p = h.all v (omega arith) in
-    c.in-None.ensures p.0 p.1 p.2
-
-pub loop-v-preserved : goal.loop-v-preserved
-loop-v-preserved c =
-    set_more (λ v p. (1 ≤ p) × (p ≤ c.args.size) × (get_or c.args.list.now (p - 1) 0 ≡ v + 1)) c.loop-v.found 16 c.loop-v.v c.in-Some.p c.loop-v.invariant.0 (omega arith) c.loop-v.invariant.1 c.in-Some.ensures
+pub returns-in_err-place : goal.returns-in_err-place
+returns-in_err-place c =
+    rw c.from_residual.ensures (λ h. let p = h c.loop-v.v (omega arith) in c.in_err-place.ensures p.0 p.1 p.2)

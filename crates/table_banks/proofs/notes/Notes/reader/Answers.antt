@@ -3,9 +3,6 @@ use Rattle.table_banks.specs.Notes.{seen}
 use Rattle.table_banks.proofs.Noting.{noted_home, homed_by}
 use Rattle.table_banks.proofs.notes.Notes.reader.Goals as goal
 
-pub returns-then-not-has : goal.returns-then-not-has
-returns-then-not-has c = search rules
-
 pub returns : goal.returns
 returns c =
     let k = c.args.self.now in

@@ -1,6 +1,0 @@
-use Rattle.std.proofs.Common.{append_assoc, rules}
-use Rattle.explain.proofs.Pushes.{last_append}
-use Rattle.explain.proofs.texts.push_command.Goals as goal
-
-pub returns : goal.returns
-returns c = search (rules, last_append, append_assoc)

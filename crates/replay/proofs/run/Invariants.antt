@@ -1,5 +1,0 @@
-use Rattle.account.specs.Players.{left}
-use Rattle.replay.proofs.run.Given as goal
-
-abbrev pub decreases-loop-player : goal.decreases-loop-player
-decreases-loop-player l = left l.player
