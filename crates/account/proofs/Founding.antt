@@ -23,7 +23,7 @@ filled_at true n m x e = cc
 filled_at false n m x e = cc
 
 -- what a make answered, without what it left of the bank
-left_first : (bank : Meaning Cell) (r : Result Played Refusal) → (left_by bank r).0 ≡ r
+pub left_first : (bank : Meaning Cell) (r : Result Played Refusal) → (left_by bank r).0 ≡ r
 left_first bank (Ok M) = refl
 left_first bank (Err e) = refl
 

@@ -1,11 +1,12 @@
 // Making a game: a register over a board or a post, with an empty journal.
-ghost use Rattle.std.specs.Prelude.{◌≡◌, IfOk};
+ghost use Rattle.std.specs.Prelude.{◌≡◌, IfOk, None, OnErr};
 ghost use Rattle.heap_banks.specs.Made.{kept};
-ghost use Rattle.account.specs.Founded.{begun, open_first};
+ghost use Rattle.account.specs.Founded.{begun, game_of, game_told, open_first};
 ghost use Rattle.account.specs.Texts.{blank as blank_line, founding, founded_by, first_answer};
 
 use crate::bank::AnyBank;
 use crate::game::{Cell, Entry, Game};
+use crate::outcome::Outcome;
 use commands::bank::BankKind;
 use commands::command::Command;
 use heap_banks::make::repeated;
@@ -62,11 +63,27 @@ impl Game {
     }
 }
 
-// The game that a file's first accepted command makes. Any but a make comes too early.
+// Makes the game of a file.
 // It stays out of its caller, since the space for what it makes would else be cleared at every command.
 #[inline(never)]
-pub(crate) fn first(heap: Global, command: Command) -> Result<Game, Stop>
-    ensures { IfOk (kept result) (λ a. begun a ≡ first_answer command) }
+fn begin(heap: Global, kind: BankKind, plan: Plan, game: &mut Option<Game>) -> Result<Outcome, Stop>
+    requires { game_of game.old ≡ None }
+    ensures told { IfOk (kept result) (λ a. game_told a (game_of game.new) ≡ founded_by (open_first kind) (founding plan.stations plan.count plan.value)) }
+    ensures unchanged { OnErr (kept result) (game_of game.new ≡ game_of game.old) }
+{
+    *game = Some(Game::new(heap, kind, plan)?);
+    Ok(Outcome::Accepted)
+}
+
+// What a command comes to before a register is made; an accepted make begins the game, and any other command comes too early.
+pub(crate) fn first(
+    heap: Global,
+    command: Command,
+    game: &mut Option<Game>,
+) -> Result<Outcome, Stop>
+    requires { game_of game.old ≡ None }
+    ensures told { IfOk (kept result) (λ a. game_told a (game_of game.new) ≡ first_answer command) }
+    ensures unchanged { OnErr (kept result) (game_of game.new ≡ game_of game.old) }
 {
     match command {
         Command::Make {
@@ -76,12 +93,16 @@ pub(crate) fn first(heap: Global, command: Command) -> Result<Game, Stop>
             value,
         } => {
             let kind = BankKind::try_from(bank)?;
+            // tested here too, before the space for a game is cleared
+            if !(1..=16).contains(&stations) {
+                return Err(Stop::Refused(Refusal::StationCount));
+            }
             let plan = Plan {
                 stations,
                 count,
                 value,
             };
-            Game::new(heap, kind, plan)
+            begin(heap, kind, plan, game)
         }
         _ => Err(Stop::Refused(Refusal::NoRegister)),
     }

@@ -34,10 +34,7 @@ pub(crate) fn turn(
     let command = read?;
     match game {
         Some(game) => Ok(game.carry(command)?),
-        None => {
-            *game = Some(first(heap, command)?);
-            Ok(Outcome::Accepted)
-        }
+        None => first(heap, command, game),
     }
 }
 

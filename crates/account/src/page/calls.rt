@@ -1,5 +1,5 @@
 // Making a page, and reading what it holds.
-ghost use Rattle.std.specs.Prelude.{◌≡◌, [], nat_le};
+ghost use Rattle.std.specs.Prelude.{◌≡◌, ◌≤◌, [], length, nat_le};
 ghost use Rattle.account.specs.Pages.{shown, filled};
 
 use crate::page::{FULL, Page};
@@ -17,7 +17,8 @@ impl Page {
 
     // The text in it.
     pub fn text(&self) -> &[u8]
-        ensures { result.now ≡ shown self.now }
+        ensures value { result.now ≡ shown self.now }
+        ensures fits { length result.now ≤ 131072 }
     {
         self.text.as_slice()
     }

@@ -8,11 +8,14 @@ ghost use Rattle.account.specs.Words.{line as line_of, refusal_said, record_said
 use crate::game::{Entry, Game};
 use crate::outcome::Outcome;
 use crate::page::Page;
-use itoa::Buffer;
+use itoa::write_digits;
 use machine::line::{Kind, LineState};
 use policy::entry::PolicyNumber;
 use policy::refusal::Refusal;
 use stamps::{PairStamp, Stamp};
+
+// The most digits that a number of 64 bits has.
+const DIGITS: usize = 20;
 
 // The beginning of a journal line.
 fn kind_word(kind: Kind) -> &'static [u8]
@@ -46,13 +49,18 @@ impl Page {
         self.text.try_extend_from_slice(word).unwrap();
     }
 
-    // A number has at most 20 digits.
+    // A number, of at most 20 digits. One digit is appended by itself, since most numbers of an account have one.
     fn decimal(&mut self, number: u64)
         requires { Room self.old 20 }
         ensures { Appends self.old self.new (decimal number) 20 }
     {
-        let mut buffer = Buffer::new();
-        self.word(buffer.format(number).as_bytes());
+        if number < 10 {
+            self.text.push(b'0' + number as u8);
+        } else {
+            let mut digits = [0; DIGITS];
+            let start = write_digits(number, &mut digits, DIGITS);
+            self.word(&digits[start..]);
+        }
     }
 
     // A word and a number.
