@@ -1,4 +1,6 @@
 // Rounds of operations: every station opens one, and takes its steps.
+ghost use Rattle.std.specs.Prelude.{◌≡◌, IfOk};
+
 use anyhow::{Context, anyhow};
 use banks::record::Record;
 use heap_banks::make::{board, repeated};
@@ -12,9 +14,6 @@ use std::alloc::Global;
 use table_banks::board::Board;
 
 const STATIONS: u8 = 16;
-
-// The steps of a round: 3 × 16 for each station.
-const STEPS: u64 = 768;
 
 const VALUE: PolicyNumber = PolicyNumber(7);
 
@@ -39,19 +38,23 @@ fn open_all(
     Ok(())
 }
 
-// Every station takes the steps of its operation in turn.
+// Every station takes the steps of its operation in turn; answers how many were accepted.
 // Register, bank and journal stay apart: in one struct a step took 92.6 instructions.
 fn step_all(
     register: &mut Register<PairStamp, PolicyNumber>,
     bank: &mut Board<Cell>,
     journal: &mut Journal<'_, Entry>,
-) -> Result<(), Refusal> {
+) -> Result<u64, Refusal>
+    ensures { IfOk result (λ k. k ≡ 768) }
+{
+    let mut accepted = 0;
     for _ in 0..3 * STATIONS {
         for station in 1..=STATIONS {
             register.step(bank, journal, station)?;
+            accepted += 1;
         }
     }
-    Ok(())
+    Ok(accepted)
 }
 
 // How many steps are accepted in so many rounds, with a journal of so many lines.
@@ -64,11 +67,13 @@ pub fn drive(heap: Global, lines: u64, rounds: u64) -> anyhow::Result<u64> {
     let mut register = Register::make(&mut bank, &journal, STATIONS, 0, VALUE, lines).map_err(
         |_| anyhow!("the register was refused"),
     )?;
+    let mut accepted = 0u64;
     for turn in 0..rounds {
         open_all(&mut register, &mut journal, turn).map_err(|_| anyhow!("an open was refused"))?;
-        step_all(&mut register, &mut bank, &mut journal).map_err(|_| anyhow!(
+        let steps = step_all(&mut register, &mut bank, &mut journal).map_err(|_| anyhow!(
             "a step was refused"
         ))?;
+        accepted = accepted.wrapping_add(steps);
     }
-    Ok(rounds.saturating_mul(STEPS))
+    Ok(accepted)
 }
