@@ -1,3 +1,4 @@
+pub mod Layers
 pub mod Permuting
 pub mod Renumberings
 pub mod Splits

@@ -1,49 +1,36 @@
 -- Lemmas on renumbered banks. Assumes nothing.
-use Rattle.std.proofs.Common.{◌≡◌, ℕ, ◌≤◌, Bool, true, false, cond, eqb, leb, Result, sym, refl, ap, ◌∙◌, arith, rules}
-use Rattle.std.proofs.lemmas.Grind.{common_steps}
+use Rattle.std.proofs.Common.{◌≡◌, ℕ, ◌≤◌, Bool, true, false, cond, eqb, leb, Result, sym, refl, ap, ◌∙◌, rules}
 use Rattle.std.proofs.lemmas.Bool.{leb-true}
-use Rattle.banks.proofs.Shared.{Left, same_meaning}
+use Rattle.banks.proofs.Shared.{Left}
 use Rattle.policy.specs.declared.refusal.Refusal.{Refusal}
-use Rattle.banks.specs.Meanings.{inside, Meaning, read, start, started, mark, marked}
+use Rattle.banks.specs.Meanings.{inside, Meaning, read, start, mark}
 use Rattle.layers.specs.Layers.{deepened, renumbered}
 use Rattle.layers.specs.Numberings.{number_at, position_at}
 use Rattle.layers.specs.Renumberings.{fitting}
 use Rattle.layers.specs.declared.permutation.Permutation.{Permutation}
+use Rattle.layers.proofs.Layers.{eqb_same, read_laid, start_laid, mark_laid}
 use Rattle.layers.proofs.Permuting.{Renumbers, renumbers}
 
--- two numbers above are the same where those below are
-eqb_same : {n : ℕ} {p q : ℕ → ℕ} → Renumbers n p q → (v w : ℕ) → eqb (p v) (p w) ≡ eqb v w
-eqb_same s v w = grind (arith, common_steps, s.back v, s.back w)
-
--- a bank that means b, under the numbers p, with q back: each call above, by the call below
+-- a bank that means b, under the numbers p, with q back: every cell lies in it
 module _ {R : Type 0} {p q : ℕ → ℕ} (b : Meaning R) (s : Renumbers b.stations p q) where
-  abbrev above : Meaning R
-  above = renumbered p q b
-
   -- what comes up from the bank below
-  abbrev up : {X : Type 0} → Result X Refusal × Meaning R → Result X Refusal × Meaning R
+  abbrev pub up : {X : Type 0} → Result X Refusal × Meaning R → Result X Refusal × Meaning R
   up z = (deepened z.0, renumbered p q z.1)
 
-  read_above : (c : Bool) (w r : ℕ) → read above c w r ≡ up (read b c (p w) (p r))
-  read_above c w r = let k = s.stays w in let l = s.stays r in let f = s.forth r in search rules
+  read_above : (c : Bool) (w r : ℕ) → read (renumbered p q b) c w r ≡ up (read b c (p w) (p r))
+  read_above c w r = read_laid (λ v. true) p q b b s c w r refl
 
-  started_above : (w r : ℕ) (x : R) → started above w r x ≡ renumbered p q (started b (p w) (p r) x)
-  started_above w r x = same_meaning _ _ refl (λ v k. refl) (λ v. grind (arith, common_steps, s.back v, s.back w, s.back r)) (λ v k. refl) (λ v k. refl)
+  start_above : (w r : ℕ) (x : R) → start (renumbered p q b) w r x ≡ up (start b (p w) (p r) x)
+  start_above w r x = start_laid (λ v. true) p q b b s w r x refl
 
-  start_above : (w r : ℕ) (x : R) → start above w r x ≡ up (start b (p w) (p r) x)
-  start_above w r x = let k = s.stays w in let l = s.stays r in let f = started_above w r x in search rules
-
-  marked_above : (w r : ℕ) (k : Bool) → marked above w r k ≡ renumbered p q (marked b (p w) (p r) k)
-  marked_above w r k = search (rules, eqb_same s)
-
-  mark_above : (w r : ℕ) (k : Bool) → mark above w r k ≡ up (mark b (p w) (p r) k)
-  mark_above w r k = let i = s.stays w in let l = s.stays r in let f = marked_above w r k in search rules
+  mark_above : (w r : ℕ) (k : Bool) → mark (renumbered p q b) w r k ≡ up (mark b (p w) (p r) k)
+  mark_above w r k = mark_laid (λ v. true) p q b b s w r k refl
 
 -- the numbers of a permutation, and its positions, for a bank of n stations
-abbrev number_for : Permutation → ℕ → ℕ → ℕ
+abbrev pub number_for : Permutation → ℕ → ℕ → ℕ
 number_for p n = fitting p.size n (number_at p)
 
-abbrev position_for : Permutation → ℕ → ℕ → ℕ
+abbrev pub position_for : Permutation → ℕ → ℕ → ℕ
 position_for p n = fitting p.size n (position_at p)
 
 -- a permutation and its way back renumber every bank
