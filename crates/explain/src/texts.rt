@@ -4,6 +4,7 @@ ghost use Rattle.std.specs.String.{string_bytes};
 ghost use Rattle.explain.specs.Texts.{explained, LineEach, Tells};
 
 use commands::file::Commands;
+use itoa::Buffer;
 use std::alloc::{AllocError, Global};
 
 // The file in words.
@@ -15,9 +16,11 @@ pub fn explain(heap: Global, input: &[u8]) -> Result<String, AllocError>
 {
     let mut out = String::new(heap);
     for (number, outcome) in (1u64..).zip(Commands::new(input)) {
+        // Pushed, since as a piece of the `writeln!` it makes a short line take a quarter more instructions.
+        out.push_str(Buffer::new().format(number))?;
         match outcome {
-            Ok(command) => writeln!(out, "{number} {command}")?,
-            Err(refusal) => writeln!(out, "{number} no {}", refusal.number())?,
+            Ok(command) => writeln!(out, " {command}")?,
+            Err(refusal) => writeln!(out, " no {}", refusal.number())?,
         }
     }
     Ok(out)
