@@ -1,6 +1,6 @@
 // Outcomes and journal lines written into a page, behind the text that it holds.
 // They are written as bytes: of a `write!` no contract says when it succeeds, and a line must not fail.
-ghost use Rattle.std.specs.Prelude.{◌≡◌, ◌+◌, ◌*◌, ◌≤◌, ◌++◌, length, codes, decimal};
+ghost use Rattle.std.specs.Prelude.{◌≡◌, ◌+◌, ◌*◌, ◌≤◌, ◌++◌, ◌∷◌, length, codes, decimal};
 ghost use Rattle.account.specs.Founded.{game_of, game_said};
 ghost use Rattle.account.specs.Pages.{shown, filled, Room, Appends};
 ghost use Rattle.account.specs.Words.{line as line_of, refusal_said, record_said, kind_said, state_said, line_said, journal_said, list_said};
@@ -72,14 +72,27 @@ impl Page {
         self.decimal(number);
     }
 
+    // A separator of one byte and a number. One digit is appended with it, since each append costs as much.
+    fn after(&mut self, separator: u8, number: u64)
+        requires { Room self.old 21 }
+        ensures { Appends self.old self.new (separator ∷ decimal number) 21 }
+    {
+        if number < 10 {
+            self.word(&[separator, b'0' + number as u8]);
+        } else {
+            self.word(&[separator]);
+            self.decimal(number);
+        }
+    }
+
     // A stamp as count, full stop, owner; and a value.
     fn record(&mut self, stamp: PairStamp, value: PolicyNumber)
         requires { Room self.old 62 }
         ensures { Appends self.old self.new (record_said stamp value) 62 }
     {
         self.decimal(stamp.count());
-        self.field(b".", u64::from(stamp.owner()));
-        self.field(b" ", u64::from(value.0));
+        self.after(b'.', u64::from(stamp.owner()));
+        self.after(b' ', u64::from(value.0));
     }
 
     // A journal line on a line of its own: W or R, station, state, stamp, value, opened, ended.
@@ -90,8 +103,8 @@ impl Page {
         self.field(kind_word(line.kind), u64::from(line.station));
         self.word(state_word(line.state));
         self.record(line.stamp, line.value);
-        self.field(b" ", line.opened);
-        self.field(b" ", line.ended);
+        self.after(b' ', line.opened);
+        self.after(b' ', line.ended);
     }
 
     // A refusal by its number; 15 also by its place.
@@ -101,9 +114,9 @@ impl Page {
     {
         self.field(b"no ", u64::from(refusal.number()));
         if let Refusal::Unreachable((depth, writer, reader)) = refusal {
-            self.field(b" ", u64::from(depth));
-            self.field(b" ", u64::from(writer));
-            self.field(b" ", u64::from(reader));
+            self.after(b' ', u64::from(depth));
+            self.after(b' ', u64::from(writer));
+            self.after(b' ', u64::from(reader));
         }
     }
 
